@@ -1,0 +1,4 @@
+mod FailListLemmas
+mod NameLemmas
+mod NumberLemmas
+mod StreamLemmas

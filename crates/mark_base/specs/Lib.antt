@@ -1,0 +1,4 @@
+pub mod AnnIds
+pub mod FailList
+pub mod Names
+pub mod Streams

@@ -1,0 +1,30 @@
+-- What a read and a write do to the bytes of a stream, and when a fault is answered.
+use Rattle.std.specs.Prelude.{◌≡◌, ℕ, ◌+◌, ◌-◌, ◌^◌, ◌≤◌, min, List, length, take, Option, Result, OnErr}
+use Rattle.std.specs.Io.KnownBytes.{Appends}
+
+-- a count rose, or stands at the last value of its type
+abbrev pub Rose : ℕ → ℕ → Type 0
+Rose before now = min (before + 1) (2 ^ 64 - 1) ≤ now
+
+-- a count of faults did not fall, and an error comes only where it rose
+pub record HasCause {T E : Type 0} (before now : ℕ) (result : Result T E) : Type 0 where
+  pub later : before ≤ now
+  pub failed : OnErr result (Rose before now)
+
+-- a sink took a front of the piece and no more
+pub record AppendsFront (old new : Option (List ℕ)) (piece : List ℕ) : Type 0 where
+  pub count : ℕ
+  pub fits : count ≤ length piece
+  pub bytes : Appends old new (take count piece)
+
+-- a link was read and not written
+pub record OnlyReads {L : Type 0} (holds : L → Option (List ℕ)) (writes_failed reads_failed : L → ℕ) (old new : L) : Type 0 where
+  pub held : holds new ≡ holds old
+  pub write_faults : writes_failed new ≡ writes_failed old
+  pub later : reads_failed old ≤ reads_failed new
+
+-- a link was written and not read
+pub record OnlyWrites {L : Type 0} (has_left : L → Option (List ℕ)) (reads_failed writes_failed : L → ℕ) (old new : L) : Type 0 where
+  pub left : has_left new ≡ has_left old
+  pub read_faults : reads_failed new ≡ reads_failed old
+  pub later : writes_failed old ≤ writes_failed new
