@@ -1,0 +1,4 @@
+mod CheckpointLemmas
+mod ReferenceLemmas
+mod SliceLemmas
+mod TokenLemmas
