@@ -1,0 +1,3 @@
+mod ClimbLemmas
+mod FaultLemmas
+mod NameLemmas
