@@ -1,0 +1,88 @@
+-- The canonical text of a configuration.
+use Rattle.std.specs.Prelude.{ℕ, ◌+◌, ◌==◌, ◌&&◌, Bool, true, false, List, [], ◌∷◌, ◌++◌, length, nat_lt, if◌then◌else◌, map, filter, decimal, codes, replicate, slice_get, zero, suc}
+use Rattle.std.specs.Option.{option_map_or}
+use Rattle.std.specs.List.{join_with_byte, flat_map, enumerate_from}
+use Rattle.mark_base.specs.declared.places.TypeId.{TypeId}
+use Rattle.type_hierarchy.specs.declared.type_row.TypeRow.{TypeRow}
+use Rattle.type_hierarchy.specs.TypeTrees.{parent_of}
+use Rattle.annotation_conf.specs.Configurations.{Alternatives, Role, RelationType, AttributeType, Overlap, Configuration}
+
+-- how deep a type stands, by at most so many steps up
+abbrev pub depth_by : ℕ → List TypeRow → ℕ → ℕ
+depth_by zero rows place = 0
+depth_by (suc steps) rows place = option_map_or (λ (parent : TypeId). depth_by steps rows parent.n + 1) (parent_of rows place) 0
+
+-- pieces with a comma and a space between each two
+abbrev pub with_commas : List (List ℕ) → List ℕ
+with_commas [] = []
+with_commas (piece ∷ []) = piece
+with_commas (piece ∷ next ∷ more) = piece ++ codes ", " ++ with_commas (next ∷ more)
+
+-- a word where something holds
+abbrev pub where_so : Bool → List ℕ → List (List ℕ)
+where_so so word = if so then word ∷ [] else []
+
+-- the name of a type and of a relation type by its place
+abbrev pub type_name_at : Configuration → ℕ → List ℕ
+type_name_at conf place = option_map_or (λ row. row.name) (slice_get conf.types place) []
+
+-- the name of a relation type by its place
+abbrev pub relation_name_at : Configuration → ℕ → List ℕ
+relation_name_at conf place = option_map_or (λ relation. relation.name) (slice_get conf.relations place) []
+
+-- alternatives: the built-in macros, then types, then relation types, joined by `|`
+abbrev pub alternatives_text : Configuration → Alternatives → List ℕ
+alternatives_text conf named =
+    join_with_byte 124 (where_so named.entity (codes "<ENTITY>") ++ where_so named.event (codes "<EVENT>") ++ where_so named.any (codes "<ANY>")
+    ++ where_so named.relation (codes "<RELATION>") ++ map (type_name_at conf) named.bound ++ map (relation_name_at conf) named.between)
+
+-- a mark from its two counts
+abbrev pub mark_text : ℕ → ℕ → List ℕ
+mark_text least most =
+    if least == 1 && most == 1 then [] else if least == 0 && most == 1 then codes "?"
+    else if least == 0 && most == 4294967295 then codes "*" else if least == 1 && most == 4294967295 then codes "+"
+    else if least == most then codes "{" ++ decimal least ++ codes "}" else codes "{" ++ decimal least ++ codes "-" ++ decimal most ++ codes "}"
+
+-- a role and its alternatives
+abbrev pub pair_text : Configuration → List ℕ → Alternatives → List ℕ
+pair_text conf role named = role ++ codes ":" ++ alternatives_text conf named
+
+-- a role of an event type with its mark
+abbrev pub role_text : Configuration → Role → List ℕ
+role_text conf role = role.name ++ mark_text role.least role.most ++ codes ":" ++ alternatives_text conf role.targets
+
+-- a name and its pairs: one TAB between, where there are pairs
+abbrev pub line_text : List ℕ → List (List ℕ) → List ℕ
+line_text name pairs = name ++ (if length pairs == 0 then [] else codes "\t" ++ with_commas pairs) ++ codes "\n"
+
+-- the line of a type: TABs for its depth, `!` where annotations may not have it, its name and its roles
+abbrev pub type_text : Configuration → ℕ × TypeRow → List ℕ
+type_text conf placed =
+    replicate (depth_by (length conf.types) conf.types placed.0) 9 ++ (if placed.1.usable then [] else codes "!")
+    ++ line_text placed.1.name (map (role_text conf) (option_map_or (λ roles. roles) (slice_get conf.roles placed.0) []))
+
+-- the lines of a relation type
+abbrev pub relation_text : Configuration → RelationType → List ℕ
+relation_text conf relation =
+    flat_map (λ line. line_text relation.name (pair_text conf relation.first line.first ∷ pair_text conf relation.second line.second
+    ∷ where_so relation.equivalence (codes "<REL-TYPE>:symmetric-transitive"))) relation.lines
+
+-- an overlap line
+abbrev pub overlap_text : Configuration → Overlap → List ℕ
+overlap_text conf line =
+    let kinds = where_so line.contain (codes "contain") ++ where_so line.equal (codes "equal") ++ where_so line.cross (codes "cross") ++ where_so line.any (codes "<ANY>") in
+    line_text (codes "<OVERLAP>") (pair_text conf (codes "Arg1") line.first ∷ pair_text conf (codes "Arg2") line.second ∷ (codes "<OVL-TYPE>:" ++ join_with_byte 124 kinds) ∷ [])
+
+-- the line of an attribute
+abbrev pub attribute_text : Configuration → AttributeType → List ℕ
+attribute_text conf attribute =
+    line_text attribute.name (pair_text conf (codes "Arg") attribute.targets
+    ∷ where_so (nat_lt 0 (length attribute.values)) (codes "Value:" ++ join_with_byte 124 attribute.values))
+
+-- the four sections
+unfoldable pub conf_text : Configuration → List ℕ
+conf_text conf =
+    codes "[entities]\n" ++ flat_map (type_text conf) (filter (λ placed. if placed.1.event then false else true) (enumerate_from 0 conf.types))
+    ++ codes "[relations]\n" ++ flat_map (relation_text conf) conf.relations ++ flat_map (overlap_text conf) conf.overlaps
+    ++ codes "[events]\n" ++ flat_map (type_text conf) (filter (λ placed. placed.1.event) (enumerate_from 0 conf.types))
+    ++ codes "[attributes]\n" ++ flat_map (attribute_text conf) conf.attributes

@@ -1,0 +1,9 @@
+pub mod ConfFaults
+pub mod ConfLines
+pub mod ConfNames
+pub mod ConfOf
+pub mod ConfPairs
+pub mod ConfText
+pub mod Configurations
+pub mod Lookups
+pub mod WorkedFiles

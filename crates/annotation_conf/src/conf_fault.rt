@@ -1,0 +1,42 @@
+//! Why bytes are no configuration.
+
+/// What is at fault with a line.
+#[derive(Clone, Copy, Debug, PartialEq, Eq)]
+pub enum ConfWhat {
+    /// The bytes are not UTF-8.
+    NotUtf8,
+    /// A line in square brackets names no section.
+    UnknownSection,
+    /// The section stood before.
+    SectionTwice,
+    /// There is no section `[entities]`. The line is the one behind the last.
+    SectionMissing,
+    /// A line before the first section is no macro.
+    OutsideSection,
+    /// A type stands deeper than one below the type line before it, or begins with a space.
+    BadIndent,
+    /// A type, role, value or macro name is no name, or the name of a type or an attribute begins with
+    /// `[` or is of hyphens only.
+    BadName,
+    /// A type, attribute or macro, a role of one event type or a value of one attribute stood before.
+    NameTwice,
+    /// The mark of a role is none of `?`, `*`, `+`, `{N}` and `{N-M}`.
+    BadCount,
+    /// A pair or a list of pairs is not of the form that its section asks.
+    BadArgument,
+    /// A named type is declared nowhere, or is not of a sort that may stand there.
+    UnknownTypeNamed,
+    /// A macro is defined nowhere, or in a macro not earlier, or holds relation types where none may stand.
+    UnknownMacro,
+    /// The line brings the 257th type, relation type, attribute, role or value, or the 64th usable type.
+    TooManyTypes,
+}
+
+/// Why bytes are no configuration.
+#[derive(Clone, Copy, Debug, PartialEq, Eq)]
+pub enum ConfFault {
+    /// The first fault, and the number of its line, from 1.
+    At { line: u32, what: ConfWhat },
+    /// Memory ran out.
+    Memory,
+}
