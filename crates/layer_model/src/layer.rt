@@ -1,0 +1,66 @@
+//! A layer.
+ghost use Rattle.std.specs.Prelude.{◌≡◌, ◌≢◌, ◌<◌, ◌+◌, ◌-◌, ◌++◌, ◌∷◌, [], length, slice_get, None, Some, IfOk, OnErr, OnOk};
+ghost use Rattle.std.specs.Option.{option_copied};
+ghost use Rattle.layer_model.specs.Span.{has_span, is_span};
+
+use crate::span::{Span, same_fragments};
+use mark_base::{Frag, Memory, TypeId};
+use std::alloc::Global;
+use std::marker::Model;
+
+/// What one annotator has marked on one text. Contracts see it as the list of its spans, of which the
+/// one at index i, counted from 0, has the number i + 1.
+#[derive(Debug, Drop)]
+pub struct Layer {
+    spans: Vec<Span>,
+}
+
+impl Model for Layer {
+    ghost use Rattle.std.specs.Prelude.{List};
+    ghost use Rattle.layer_model.specs.declared.span.Span.{Span};
+
+    ghost Value = { List Span };
+
+    ghost view = { λ layer. layer.spans.items };
+}
+
+impl Layer {
+    /// A layer with nothing marked.
+    pub fn new(alloc: Global) -> Self
+        ensures { result ≡ [] }
+    {
+        Layer {
+            spans: Vec::new(alloc),
+        }
+    }
+
+    /// The spans in the order of their numbers.
+    pub fn spans(&self) -> &[Span]
+        ensures { result.now ≡ self.now }
+    {
+        self.spans.as_slice()
+    }
+
+    /// Whether a span of this type and these fragments stands. Cost: the number of spans.
+    pub fn has(&self, kind: TypeId, frags: &[Frag]) -> bool
+        ensures { result ≡ has_span kind.n frags.now self.now }
+    {
+        has_such(self.spans.as_slice(), kind, frags)
+    }
+
+    /// Adds a span, which gets the next number. Want of memory leaves the layer as it was.
+    pub fn add(&mut self, span: Span) -> Result<(), Memory>
+        ensures added { OnOk result (self.new ≡ self.old ++ span ∷ []) }
+        ensures kept { OnErr result (self.new ≡ self.old) }
+    {
+        self.spans.push(span)?;
+        Ok(())
+    }
+}
+
+/// Whether one of the spans has this type and these fragments.
+fn has_such(spans: &[Span], kind: TypeId, frags: &[Frag]) -> bool
+    ensures { result ≡ has_span kind.n frags.now spans.now }
+{
+    spans.iter().any(|span| span.kind.n == kind.n && same_fragments(span.frags.items(), frags))
+}

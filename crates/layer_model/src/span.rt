@@ -1,0 +1,28 @@
+//! A text-bound annotation.
+ghost use Rattle.std.specs.Prelude.{◌≡◌};
+ghost use Rattle.layer_model.specs.Span.{same_fragments};
+
+use mark_base::{Frag, FragList, TypeId};
+
+/// A text-bound annotation: a type and the fragments of the text that it marks (brat standoff manual,
+/// "Text-bound annotations").
+#[derive(Debug, Drop)]
+pub struct Span {
+    pub kind: TypeId,
+    pub frags: FragList,
+}
+
+/// Whether two lists have the same fragments in the same order. Cost: the shorter list.
+pub fn same_fragments(a: &[Frag], b: &[Frag]) -> bool
+    ensures { result ≡ same_fragments a.now b.now }
+{
+    match a {
+        [] => b.is_empty(),
+        [first, rest @ ..] => match b {
+            [] => false,
+            [other, others @ ..] => {
+                first.start == other.start && first.end == other.end && same_fragments(rest, others)
+            }
+        },
+    }
+}
