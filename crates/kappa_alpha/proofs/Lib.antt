@@ -1,0 +1,13 @@
+pub mod Below
+pub mod Counts
+pub mod Marginals
+pub mod PairPlaces
+pub mod ReadColumn
+pub mod Readings
+pub mod RowLaws
+pub mod Shared
+pub mod Shares
+pub mod Totals
+pub mod Squares
+pub mod Toward
+pub mod Worth
