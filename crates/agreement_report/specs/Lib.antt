@@ -1,0 +1,3 @@
+pub mod Decimals
+pub mod Report
+pub use Rattle.kappa_alpha.specs.Figures
