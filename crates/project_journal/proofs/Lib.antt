@@ -1,0 +1,12 @@
+pub mod Appends
+pub mod Creations
+pub mod Exits
+pub mod Headers
+pub mod Moments
+pub mod Opens
+pub mod Overwrites
+pub mod Parsing
+pub mod PastLemmas
+pub mod Sound
+pub mod Wholes
+pub mod Writes

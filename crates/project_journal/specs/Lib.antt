@@ -1,0 +1,13 @@
+pub mod Creation
+pub mod Disk
+pub mod DiskFails
+pub mod JournalFile
+pub mod Journals
+pub mod Keeper
+pub mod Opening
+pub mod PastCalls
+pub mod RecordLaws
+pub mod Settled
+pub mod SettledLaws
+pub mod StopLaws
+pub mod Stops
