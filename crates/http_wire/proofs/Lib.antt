@@ -1,0 +1,10 @@
+pub mod BlankLemmas
+pub mod DecimalLemmas
+pub mod FieldLemmas
+pub mod HeadLemmas
+pub mod MessageLemmas
+pub mod StreamLemmas
+pub mod TakeLemmas
+pub mod TextLemmas
+pub mod UnableLemmas
+pub mod WindowLemmas

@@ -1,0 +1,19 @@
+use Rattle.std.proofs.Common.{refl}
+use Rattle.http_wire.specs.Answers.{answer_bytes_of}
+use Rattle.http_wire.proofs.answer.answer_bytes.Goals as goal
+
+pub returns : goal.returns
+unfolding answer_bytes_of
+returns c = rw (
+  c.from_vec.ensures,
+  c.in_ok-extend_from_slice.ensures.items,
+  c.in_ok-push_text.ensures,
+  c.ending.ensures,
+  c.in_ok-push_number-2.ensures,
+  c.in_ok-push_number.ensures,
+  c.in_ok-push_field.ensures,
+  c.media_name.ensures,
+  c.in_ok-push_status.ensures,
+  c.new-bytes.ensures.items,
+  c.items-body.ensures,
+) refl
