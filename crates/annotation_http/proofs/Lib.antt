@@ -1,0 +1,4 @@
+mod LineLemmas
+mod Offsets
+mod SessionLemmas
+mod Values
