@@ -70,6 +70,7 @@ abbrev pub content_of : {X : Type 0} → Section → (ℕ → List ℕ → X) �
 content_of section read number (Within here) (Content cs) = if is_section section here then Some (read number cs) else None
 content_of section read number _ _ = None
 
+-- the content lines of a section, in their order, each read by a function of its number and characters
 abbrev pub section_lines : {X : Type 0} → Section → (ℕ → List ℕ → X) → List Line → List X
 section_lines section read lines = filter_map (λ line. content_of section read line.number line.place line.kind) lines
 

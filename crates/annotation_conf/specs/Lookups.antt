@@ -110,11 +110,11 @@ overlap_allowed conf a b kind =
     && (is_apart kind || not (nat_lt 0 (length conf.overlaps))
     || list_any (λ line. line_allows conf a b kind line || line_allows conf b a (turned kind) line) conf.overlaps)
 
--- categories number the usable types from 1; a type that is not usable is 0, and so is a token without a label
 -- how many of some types annotations may have
 abbrev pub usable_in : List TypeRow → ℕ
 usable_in rows = count_by (λ row. row.usable) rows
 
+-- categories number the usable types from 1; a type that is not usable is 0, and so is a token without a label
 abbrev pub category_of : Configuration → TypeId → ℕ
 category_of conf id = option_map_or (λ row. if row.usable then usable_in (take id.n conf.types) + 1 else 0) (slice_get conf.types id.n) 0
 

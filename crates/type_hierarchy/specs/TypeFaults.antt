@@ -19,10 +19,11 @@ is_twice rows place = option_map_or (λ row. list_any (is_named row.name) (take 
 abbrev pub is_misplaced : List TypeRow → ℕ → Bool
 is_misplaced rows place = option_map_or (λ parent. nat_le place parent.n) (parent_of rows place) false
 
--- the first row whose name stands before it, and the first whose parent does not
+-- the first row whose name stands before it
 unfoldable pub name_twice : List TypeRow → Option ℕ
 name_twice rows = first_place (is_twice rows) (length rows)
 
+-- the first row whose parent does not stand before it
 unfoldable pub bad_parent : List TypeRow → Option ℕ
 bad_parent rows = first_place (is_misplaced rows) (length rows)
 
