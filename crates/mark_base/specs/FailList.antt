@@ -12,10 +12,11 @@ pub record FailState : Type 0 where
 abbrev pub IsFaultless : FailState → Type 0
 IsFaultless s = ((call : ℕ) → s.calls < call → list_any (λ number. nat_eq number call) s.fails ≡ false) × (s.faults < 18446744073709551615)
 
--- a call was counted, below the last number of its type, and it failed exactly where the list has its number
+-- the list has the number of a call
 abbrev pub is_listed : FailState → ℕ → Bool
 is_listed s call = list_any (λ number. nat_eq number call) s.fails
 
+-- a call was counted, below the last number of its type, and it failed exactly where the list has its number
 pub record CountsCall (old : FailState) (failed : Bool) (new : FailState) : Type 0 where
   pub listed : old.calls < 18446744073709551615 → failed ≡ is_listed old (old.calls + 1)
   pub counted : old.calls < 18446744073709551615 → new.calls ≡ old.calls + 1

@@ -52,12 +52,14 @@ impl ArgList {
         items
     }
 
+    /// The arguments in their order.
     pub fn items(&self) -> &[Arg]
         ensures { result.now ≡ self.now }
     {
         self.items.as_slice()
     }
 
+    /// A second list of the same arguments. Cost: their number.
     pub fn copy(&self) -> Result<Self, Memory>
         ensures { IfOk result (λ list. list ≡ self.now) }
     {

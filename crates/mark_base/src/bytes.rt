@@ -43,12 +43,14 @@ impl Bytes {
         items
     }
 
+    /// The bytes in their order.
     pub fn items(&self) -> &[u8]
         ensures { result.now ≡ self.now }
     {
         self.items.as_slice()
     }
 
+    /// A second list of the same bytes. Cost: their number.
     pub fn copy(&self) -> Result<Self, Memory>
         ensures { IfOk result (λ bytes. bytes ≡ self.now) }
     {

@@ -52,12 +52,14 @@ impl FragList {
         items
     }
 
+    /// The fragments in their order.
     pub fn items(&self) -> &[Frag]
         ensures { result.now ≡ self.now }
     {
         self.items.as_slice()
     }
 
+    /// A second list of the same fragments. Cost: their number.
     pub fn copy(&self) -> Result<Self, Memory>
         ensures { IfOk result (λ list. list ≡ self.now) }
     {

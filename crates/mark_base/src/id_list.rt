@@ -44,12 +44,14 @@ impl IdList {
         items
     }
 
+    /// The IDs in their order.
     pub fn items(&self) -> &[AnnId]
         ensures { result.now ≡ self.now }
     {
         self.items.as_slice()
     }
 
+    /// A second list of the same IDs. Cost: their number.
     pub fn copy(&self) -> Result<Self, Memory>
         ensures { IfOk result (λ list. list ≡ self.now) }
     {

@@ -67,12 +67,14 @@ impl NamedArgs {
         items
     }
 
+    /// The arguments in their order.
     pub fn items(&self) -> &[NamedArg]
         ensures { result.now ≡ self.now }
     {
         self.items.as_slice()
     }
 
+    /// A second list of the same arguments. Cost: their number and the bytes of their roles.
     pub fn copy(&self) -> Result<Self, Memory>
         ensures { IfOk result (λ list. list ≡ self.now) }
     {

@@ -46,12 +46,14 @@ impl SlugList {
         items
     }
 
+    /// The slugs in their order.
     pub fn items(&self) -> &[Slug]
         ensures { result.now ≡ self.now }
     {
         self.items.as_slice()
     }
 
+    /// A second list of the same slugs. Cost: their number and their bytes.
     pub fn copy(&self) -> Result<Self, Memory>
         ensures { IfOk result (λ list. list ≡ self.now) }
     {

@@ -43,12 +43,14 @@ impl Text {
         items
     }
 
+    /// The text as a string slice.
     pub fn text(&self) -> &str
         ensures { result.now ≡ self.now }
     {
         self.items.as_str()
     }
 
+    /// A second text of the same characters. Cost: its bytes.
     pub fn copy(&self) -> Result<Self, Memory>
         ensures { IfOk result (λ copied. copied ≡ self.now) }
     {
