@@ -1,3 +1,4 @@
 mod ClimbLemmas
+mod DepthLemmas
 mod FaultLemmas
 mod NameLemmas

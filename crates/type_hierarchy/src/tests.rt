@@ -110,5 +110,16 @@ fn types_are_found_and_stand_under_their_ancestors(rt: HostRuntime) -> Result<()
         let answer = types.under(TypeId { n: low }, TypeId { n: high });
         assert_eq!(rt; answer, under, "{low} {high}");
     }
+    let depths = [
+        (0, Some(0)),
+        (1, Some(1)),
+        (2, Some(2)),
+        (3, Some(1)),
+        (4, Some(0)),
+        (5, None),
+    ];
+    for (place, depth) in depths {
+        assert_eq!(rt; types.depth(TypeId { n: place }), depth, "{place}");
+    }
     Ok(())
 }

@@ -1,7 +1,7 @@
 //! The tree of types.
 ghost use Rattle.std.specs.Prelude.{◌≡◌, ◌<◌, ◌≤◌, length, slice_get, vec_len, IfOk, IfErr, OnOk, None, nat_le, false};
 ghost use Rattle.std.specs.Option.{option_copied, option_map_or};
-ghost use Rattle.type_hierarchy.specs.TypeTrees.{climbs, is_under, type_named};
+ghost use Rattle.type_hierarchy.specs.TypeTrees.{climbs, depth_by, depth_of, is_under, type_named};
 ghost use Rattle.type_hierarchy.specs.TypeFaults.{are_too_many, bad_parent, fault_of, name_twice, IsNameRefusal, IsRefusal};
 ghost use Rattle.type_hierarchy.specs.Indexed.{FindsNames, ParentsBefore};
 
@@ -92,6 +92,19 @@ fn climbs(rows: &[TypeRow], low: u16, high: u16) -> bool
     }
 }
 
+/// How many ancestors a type has.
+fn ancestors(rows: &[TypeRow], place: u16) -> u16
+    requires parents { ParentsBefore rows.now }
+    requires within { place < length rows.now }
+    ensures value { result ≡ depth_by place rows.now place }
+    ensures few { result ≤ place }
+{
+    match rows[usize::from(place)].parent {
+        Some(parent) => ancestors(rows, parent.n) + 1,
+        None => 0,
+    }
+}
+
 impl Types {
     /// The tree of these rows, of which there are at most 65,536. Cost: their number times its
     /// logarithm.
@@ -144,5 +157,18 @@ impl Types {
     {
         let rows = self.rows.as_slice();
         usize::from(low.n) < rows.len() && climbs(rows, low.n, high.n)
+    }
+
+    /// How many ancestors a type has, or `None` where the ID is out of range. Cost: the depth of the
+    /// tree.
+    pub fn depth(&self, id: TypeId) -> Option<u8>
+        ensures { result ≡ depth_of self.now id }
+    {
+        let rows = self.rows.as_slice();
+        if usize::from(id.n) < rows.len() {
+            Some(ancestors(rows, id.n) as u8)
+        } else {
+            None
+        }
     }
 }
