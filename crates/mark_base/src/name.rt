@@ -101,6 +101,15 @@ pub fn spelling_fault(text: &str, bad: Option<usize>) -> Option<NameFault>
 }
 
 impl Name {
+    /// What is at fault with a text as a name, in the order of [`NameFault`]. Cost: the length of the
+    /// text.
+    #[tactic(auto, unfolding(crate::specs::Names::name_fault))]
+    pub fn fault(text: &str) -> Option<NameFault>
+        ensures { result ≡ name_fault text.now }
+    {
+        spelling_fault(text, first_barred(text))
+    }
+
     /// Reads a name. The faults are tested in the order of [`NameFault`]. Cost: the length of the text.
     #[tactic(auto, unfolding(crate::specs::Names::name_fault))]
     pub fn new(alloc: Global, text: &str) -> Result<Name, NameFault>
