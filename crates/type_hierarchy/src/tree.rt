@@ -1,5 +1,5 @@
 //! The tree of types.
-ghost use Rattle.std.specs.Prelude.{◌≡◌, ◌<◌, ◌≤◌, length, slice_get, vec_len, IfOk, IfErr, OnOk, None, nat_le, false};
+ghost use Rattle.std.specs.Prelude.{◌≡◌, ◌<◌, ◌≤◌, length, slice_get, vec_len, IfOk, IfErr, OnOk, None, nat_le, false, count_by};
 ghost use Rattle.std.specs.Option.{option_copied, option_map_or};
 ghost use Rattle.type_hierarchy.specs.TypeTrees.{climbs, depth_by, depth_of, is_under, type_named};
 ghost use Rattle.type_hierarchy.specs.TypeFaults.{are_too_many, bad_parent, fault_of, name_twice, IsNameRefusal, IsRefusal};
@@ -139,6 +139,15 @@ impl Types {
         ensures { option_copied result ≡ slice_get self.now id.n }
     {
         self.rows.get(usize::from(id.n))
+    }
+
+    /// The rows of the types, in the order of their IDs.
+    #[tactic(auto, using(crate::proofs::FaultLemmas::usable_few))]
+    pub fn rows(&self) -> &[TypeRow]
+        ensures value { result.now ≡ self.now }
+        ensures few_usable { count_by (λ row. row.usable) self.now ≤ 63 }
+    {
+        self.rows.as_slice()
     }
 
     /// How many types there are, at most 256.
