@@ -4,13 +4,8 @@ use Rattle.std.specs.Option.{option_map_or}
 use Rattle.std.specs.List.{join_with_byte, flat_map, enumerate_from}
 use Rattle.mark_base.specs.declared.places.TypeId.{TypeId}
 use Rattle.type_hierarchy.specs.declared.type_row.TypeRow.{TypeRow}
-use Rattle.type_hierarchy.specs.TypeTrees.{parent_of}
-use Rattle.annotation_conf.specs.Configurations.{Alternatives, Role, RelationType, AttributeType, Overlap, Configuration}
-
--- how deep a type stands, by at most so many steps up
-abbrev pub depth_by : ℕ → List TypeRow → ℕ → ℕ
-depth_by zero rows place = 0
-depth_by (suc steps) rows place = option_map_or (λ (parent : TypeId). depth_by steps rows parent.n + 1) (parent_of rows place) 0
+pub use Rattle.type_hierarchy.specs.TypeTrees.{depth_by}
+use Rattle.annotation_conf.specs.Configurations.{Alternatives, Role, Arguments, RelationType, AttributeType, Overlap, Configuration}
 
 -- pieces with a comma and a space between each two
 abbrev pub with_commas : List (List ℕ) → List ℕ
@@ -36,12 +31,16 @@ alternatives_text conf named =
     join_with_byte 124 (where_so named.entity (codes "<ENTITY>") ++ where_so named.event (codes "<EVENT>") ++ where_so named.any (codes "<ANY>")
     ++ where_so named.relation (codes "<RELATION>") ++ map (type_name_at conf) named.bound ++ map (relation_name_at conf) named.between)
 
+-- a count in braces, or two with a hyphen between
+abbrev pub braces_text : ℕ → ℕ → List ℕ
+braces_text least most = if least == most then codes "{" ++ decimal least ++ codes "}" else codes "{" ++ decimal least ++ codes "-" ++ decimal most ++ codes "}"
+
 -- a mark from its two counts
 abbrev pub mark_text : ℕ → ℕ → List ℕ
 mark_text least most =
     if least == 1 && most == 1 then [] else if least == 0 && most == 1 then codes "?"
     else if least == 0 && most == 4294967295 then codes "*" else if least == 1 && most == 4294967295 then codes "+"
-    else if least == most then codes "{" ++ decimal least ++ codes "}" else codes "{" ++ decimal least ++ codes "-" ++ decimal most ++ codes "}"
+    else braces_text least most
 
 -- a role and its alternatives
 abbrev pub pair_text : Configuration → List ℕ → Alternatives → List ℕ
@@ -51,9 +50,13 @@ pair_text conf role named = role ++ codes ":" ++ alternatives_text conf named
 abbrev pub role_text : Configuration → Role → List ℕ
 role_text conf role = role.name ++ mark_text role.least role.most ++ codes ":" ++ alternatives_text conf role.targets
 
--- a name and its pairs: one TAB between, where there are pairs
+-- what stands behind a name: one TAB and its pairs, where there are pairs
+abbrev pub pairs_text : List (List ℕ) → List ℕ
+pairs_text pairs = if length pairs == 0 then [] else codes "\t" ++ with_commas pairs
+
+-- a name and its pairs
 abbrev pub line_text : List ℕ → List (List ℕ) → List ℕ
-line_text name pairs = name ++ (if length pairs == 0 then [] else codes "\t" ++ with_commas pairs) ++ codes "\n"
+line_text name pairs = name ++ pairs_text pairs ++ codes "\n"
 
 -- the line of a type: TABs for its depth, `!` where annotations may not have it, its name and its roles
 abbrev pub type_text : Configuration → ℕ × TypeRow → List ℕ
@@ -61,17 +64,25 @@ type_text conf placed =
     replicate (depth_by (length conf.types) conf.types placed.0) 9 ++ (if placed.1.usable then [] else codes "!")
     ++ line_text placed.1.name (map (role_text conf) (option_map_or (λ roles. roles) (slice_get conf.roles placed.0) []))
 
+-- a line of a relation type
+abbrev pub arguments_text : Configuration → RelationType → Arguments → List ℕ
+arguments_text conf relation line =
+    line_text relation.name (pair_text conf relation.first line.first ∷ pair_text conf relation.second line.second
+    ∷ where_so relation.equivalence (codes "<REL-TYPE>:symmetric-transitive"))
+
 -- the lines of a relation type
 abbrev pub relation_text : Configuration → RelationType → List ℕ
-relation_text conf relation =
-    flat_map (λ line. line_text relation.name (pair_text conf relation.first line.first ∷ pair_text conf relation.second line.second
-    ∷ where_so relation.equivalence (codes "<REL-TYPE>:symmetric-transitive"))) relation.lines
+relation_text conf relation = flat_map (arguments_text conf relation) relation.lines
+
+-- the kinds of an overlap line
+abbrev pub kinds_text : Overlap → List ℕ
+kinds_text line =
+    join_with_byte 124 (where_so line.contain (codes "contain") ++ where_so line.equal (codes "equal") ++ where_so line.cross (codes "cross") ++ where_so line.any (codes "<ANY>"))
 
 -- an overlap line
 abbrev pub overlap_text : Configuration → Overlap → List ℕ
 overlap_text conf line =
-    let kinds = where_so line.contain (codes "contain") ++ where_so line.equal (codes "equal") ++ where_so line.cross (codes "cross") ++ where_so line.any (codes "<ANY>") in
-    line_text (codes "<OVERLAP>") (pair_text conf (codes "Arg1") line.first ∷ pair_text conf (codes "Arg2") line.second ∷ (codes "<OVL-TYPE>:" ++ join_with_byte 124 kinds) ∷ [])
+    line_text (codes "<OVERLAP>") (pair_text conf (codes "Arg1") line.first ∷ pair_text conf (codes "Arg2") line.second ∷ (codes "<OVL-TYPE>:" ++ kinds_text line) ∷ [])
 
 -- the line of an attribute
 abbrev pub attribute_text : Configuration → AttributeType → List ℕ

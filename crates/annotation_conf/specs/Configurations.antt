@@ -1,54 +1,22 @@
 -- What a configuration says: the types, the roles of event types, relation types, attributes and overlaps.
-use Rattle.std.specs.Prelude.{ℕ, ◌||◌, ◌==◌, Bool, false, List, slice_get, if◌then◌else◌}
+use Rattle.std.specs.Prelude.{ℕ, ◌||◌, ◌==◌, Bool, false, List, slice_get, if◌then◌else◌, refl}
 use Rattle.std.specs.List.{list_any}
 use Rattle.std.specs.Option.{option_map_or}
+use Rattle.std.specs.Coded.{Coded, code_by, coded×, coded_list}
 use Rattle.mark_base.specs.declared.places.TypeId.{TypeId}
 use Rattle.type_hierarchy.specs.declared.type_row.TypeRow.{TypeRow}
+use Rattle.type_hierarchy.specs.contracts.type_row.TypeRow as type_row
 use Rattle.type_hierarchy.specs.TypeTrees.{is_under}
-
--- which types stand in a place: all entity types, all event types, either, all relation types, and types and relation types by their places
-pub record Alternatives : Type 0 where
-  pub entity : Bool
-  pub event : Bool
-  pub any : Bool
-  pub relation : Bool
-  pub bound : List ℕ
-  pub between : List ℕ
-
--- a role of an event type: its name, how often it may be filled, and by which types
-pub record Role : Type 0 where
-  pub name : List ℕ
-  pub least : ℕ
-  pub most : ℕ
-  pub targets : Alternatives
-
--- one line of a relation type: the types of its two arguments
-pub record Arguments : Type 0 where
-  pub first : Alternatives
-  pub second : Alternatives
-
--- a relation type: its name, the names of its two roles, whether it is an equivalence, and its lines
-pub record RelationType : Type 0 where
-  pub name : List ℕ
-  pub first : List ℕ
-  pub second : List ℕ
-  pub equivalence : Bool
-  pub lines : List Arguments
-
--- an attribute: its name, what it may be set on, and its values
-pub record AttributeType : Type 0 where
-  pub name : List ℕ
-  pub targets : Alternatives
-  pub values : List (List ℕ)
-
--- which overlaps two spans of these types may have
-pub record Overlap : Type 0 where
-  pub first : Alternatives
-  pub second : Alternatives
-  pub contain : Bool
-  pub equal : Bool
-  pub cross : Bool
-  pub any : Bool
+pub use Rattle.annotation_conf.specs.declared.alternatives.Alternatives.{Alternatives}
+pub use Rattle.annotation_conf.specs.declared.role.Role.{Role}
+pub use Rattle.annotation_conf.specs.declared.relation_type.Arguments.{Arguments}
+pub use Rattle.annotation_conf.specs.declared.relation_type.RelationType.{RelationType}
+pub use Rattle.annotation_conf.specs.declared.attribute_type.AttributeType.{AttributeType}
+pub use Rattle.annotation_conf.specs.declared.overlap_line.Overlap.{Overlap}
+use Rattle.annotation_conf.specs.contracts.role.Role as role_row
+use Rattle.annotation_conf.specs.contracts.relation_type.RelationType as relation_row
+use Rattle.annotation_conf.specs.contracts.attribute_type.AttributeType as attribute_row
+use Rattle.annotation_conf.specs.contracts.overlap_line.Overlap as overlap_row
 
 -- a configuration; the roles of a type stand at its place
 pub record Configuration : Type 0 where
@@ -57,6 +25,14 @@ pub record Configuration : Type 0 where
   pub relations : List RelationType
   pub attributes : List AttributeType
   pub overlaps : List Overlap
+
+-- a configuration is stored as the tuple of its fields
+abbrev pub configuration_code : Coded Configuration
+configuration_code =
+    code_by (List TypeRow × (List (List Role) × (List RelationType × (List AttributeType × List Overlap))))
+    (coded× (coded_list type_row.the_row.coded) (coded× (coded_list (coded_list role_row.the_row.coded)) (coded× (coded_list relation_row.the_row.coded) (coded× (coded_list attribute_row.the_row.coded) (coded_list overlap_row.the_row.coded)))))
+    (λ c. (c.types, (c.roles, (c.relations, (c.attributes, c.overlaps)))))
+    (λ p. record { types = p.0; roles = p.1.0; relations = p.1.1.0; attributes = p.1.1.1.0; overlaps = p.1.1.1.1 }) (λ _. refl)
 
 -- a type stands in a place: it is of a sort that is named, or is equal to a named type or a descendant of it
 abbrev pub admits : List TypeRow → Alternatives → TypeId → Bool

@@ -1,3 +1,5 @@
+pub mod BuildPlaces
+pub mod BuildTold
 pub mod ConfFaults
 pub mod ConfLines
 pub mod ConfNames
@@ -5,5 +7,19 @@ pub mod ConfOf
 pub mod ConfPairs
 pub mod ConfText
 pub mod Configurations
+pub mod CountShows
+pub mod FaultsFirst
+pub mod FaultsTold
+pub mod FileGrows
+pub mod FileHolds
+pub mod FileKept
+pub mod FileShows
+pub mod FirstFaults
+pub mod Kept
+pub mod KnownFiles
+pub mod KnownMacros
 pub mod Lookups
+pub mod NamesKnown
+pub mod ReadFaults
+pub mod Sound
 pub mod WorkedFiles

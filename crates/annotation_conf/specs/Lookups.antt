@@ -6,7 +6,9 @@ use Rattle.mark_base.specs.declared.places.TypeId.{TypeId}
 use Rattle.mark_base.specs.declared.overlap.OvlKind.{OvlKind}
 use Rattle.mark_base.specs.declared.overlap.OvlKind.TheVariants.{Apart, Equal, Contains, Inside, Cross}
 use Rattle.type_hierarchy.specs.declared.type_row.TypeRow.{TypeRow}
-use Rattle.annotation_conf.specs.Configurations.{Role, Overlap, Configuration, admits, admits_relation}
+use Rattle.annotation_conf.specs.declared.attr_target.AttrTarget.{AttrTarget}
+use Rattle.annotation_conf.specs.declared.attr_target.AttrTarget.TheVariants.{Bound, Between}
+use Rattle.annotation_conf.specs.Configurations.{Alternatives, Role, Overlap, Configuration, admits, admits_relation}
 
 -- relation types
 abbrev pub relation_named : Configuration → List ℕ → Option ℕ
@@ -28,6 +30,10 @@ is_equivalence conf id = option_map_or (λ relation. relation.equivalence) (slic
 abbrev pub relation_admits : Configuration → ℕ → TypeId → TypeId → Bool
 relation_admits conf id first second =
     option_map_or (λ relation. list_any (λ line. admits conf.types line.first first && admits conf.types line.second second) relation.lines) (slice_get conf.relations id) false
+
+-- some line of a relation type admits the type as its first argument
+abbrev pub relation_admits_first : Configuration → ℕ → TypeId → Bool
+relation_admits_first conf id first = option_map_or (λ relation. list_any (λ line. admits conf.types line.first first) relation.lines) (slice_get conf.relations id) false
 
 -- the roles of event types; a type that is none has no roles
 abbrev pub roles_of : Configuration → ℕ → List Role
@@ -78,6 +84,15 @@ abbrev pub attribute_admits_relation : Configuration → ℕ → ℕ → Bool
 attribute_admits_relation conf id target =
     option_map_or (λ attribute. nat_lt target (length conf.relations) && admits_relation attribute.targets target) (slice_get conf.attributes id) false
 
+-- these alternatives admit what an attribute is set on; a relation type out of range is admitted nowhere
+abbrev pub targets_admit : Configuration → Alternatives → AttrTarget → Bool
+targets_admit conf targets (Bound type_) = admits conf.types targets type_
+targets_admit conf targets (Between relation) = nat_lt relation.n (length conf.relations) && admits_relation targets relation.n
+
+-- what an attribute may be set on
+abbrev pub attribute_admits : Configuration → ℕ → AttrTarget → Bool
+attribute_admits conf id target = option_map_or (λ attribute. targets_admit conf attribute.targets target) (slice_get conf.attributes id) false
+
 -- an overlap line has the kind in which its first span lies to its second; `<ANY>` has every kind
 abbrev pub has_kind : Overlap → OvlKind → Bool
 has_kind line Apart = true
@@ -100,15 +115,18 @@ is_apart Apart = true
 is_apart _ = false
 
 -- a line allows two spans of these types, the first as Arg1
-abbrev pub line_allows : Configuration → TypeId → TypeId → OvlKind → Overlap → Bool
-line_allows conf a b kind line = admits conf.types line.first a && admits conf.types line.second b && has_kind line kind
+abbrev pub line_allows : List TypeRow → TypeId → TypeId → OvlKind → Overlap → Bool
+line_allows rows a b kind line = admits rows line.first a && admits rows line.second b && has_kind line kind
+
+-- a line allows two spans of these types, either as Arg1
+abbrev pub allows_either : List TypeRow → Overlap → TypeId → TypeId → OvlKind → Bool
+allows_either rows line a b kind = line_allows rows a b kind line || line_allows rows b a (turned kind) line
 
 -- two spans of these types may lie so to one another: where they are apart, where no line speaks of overlaps, or where some line allows it, either way round
 abbrev pub overlap_allowed : Configuration → TypeId → TypeId → OvlKind → Bool
 overlap_allowed conf a b kind =
     nat_lt a.n (length conf.types) && nat_lt b.n (length conf.types)
-    && (is_apart kind || not (nat_lt 0 (length conf.overlaps))
-    || list_any (λ line. line_allows conf a b kind line || line_allows conf b a (turned kind) line) conf.overlaps)
+    && (is_apart kind || not (nat_lt 0 (length conf.overlaps)) || list_any (λ line. allows_either conf.types line a b kind) conf.overlaps)
 
 -- how many of some types annotations may have
 abbrev pub usable_in : List TypeRow → ℕ

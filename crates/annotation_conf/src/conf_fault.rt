@@ -1,4 +1,5 @@
 //! Why bytes are no configuration.
+use mark_base::Memory;
 
 /// What is at fault with a line.
 #[derive(Clone, Copy, Debug, PartialEq, Eq)]
@@ -39,4 +40,15 @@ pub enum ConfFault {
     At { line: u32, what: ConfWhat },
     /// Memory ran out.
     Memory,
+}
+
+impl From<Memory> for ConfFault {
+    ghost use Rattle.std.specs.Prelude.{◌≡◌};
+    ghost use Rattle.annotation_conf.specs.declared.conf_fault.ConfFault.{ConfFault};
+
+    ghost from_gives = { λ _ fault. fault ≡ ConfFault.Memory };
+
+    fn from(_: Memory) -> Self {
+        ConfFault::Memory
+    }
 }

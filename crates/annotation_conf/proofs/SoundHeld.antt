@@ -1,0 +1,119 @@
+-- What written alternatives hold, and that they resolve to what was written.
+use Rattle.std.proofs.Common.{◌≡◌, ℕ, ◌||◌, Bool, true, false, cond, List, [], ◌∷◌, ◌++◌, map, codes, refl, sym, ◌∙◌, ap, ap₂, append_assoc}
+use Rattle.annotation_conf.specs.ConfPairs.{Alternative, Named}
+use Rattle.annotation_conf.specs.ConfNames.{Holding, File, none_held, both_held, one_held, all_held}
+use Rattle.annotation_conf.specs.ConfFaults.{of_named, bound_names, names_of, firsts}
+use Rattle.annotation_conf.specs.ConfOf.{places_of, resolved}
+use Rattle.annotation_conf.specs.ConfText.{type_name_at, relation_name_at}
+use Rattle.annotation_conf.specs.Configurations.{Alternatives, Configuration}
+use Rattle.annotation_conf.specs.Sound.{AreTargets, named_names}
+use Rattle.annotation_conf.proofs.Written.{held_where, written_alternatives}
+
+-- what two lists of alternatives hold
+both_nil : (h : Holding) → h ≡ both_held none_held h
+both_nil h = refl
+
+both_assoc : (a b c : Holding) → both_held a (both_held b c) ≡ both_held (both_held a b) c
+both_assoc a b c =
+    λ i. record {
+      entity = or_assoc a.entity b.entity c.entity i;
+      event = or_assoc a.event b.event c.event i;
+      any = or_assoc a.any b.any c.any i;
+      relation = or_assoc a.relation b.relation c.relation i;
+      names = sym (append_assoc a.names b.names c.names) i;
+    }
+  where
+    or_assoc : (x y z : Bool) → (x || (y || z)) ≡ ((x || y) || z)
+    or_assoc true y z = refl
+    or_assoc false y z = refl
+
+pub all_held-append : (xs ys : List Alternative) → all_held [] (xs ++ ys) ≡ both_held (all_held [] xs) (all_held [] ys)
+all_held-append [] ys = refl
+all_held-append (x ∷ xs) ys = ap (both_held (one_held [] x)) (all_held-append xs ys) ∙ both_assoc (one_held [] x) (all_held [] xs) (all_held [] ys)
+
+-- names alone
+abbrev pub names_held : List (List ℕ) → Holding
+names_held names = record { entity = false; event = false; any = false; relation = false; names = names }
+
+pub held_names : {X : Type 0} (name : X → List ℕ) (xs : List X) → all_held [] (map (λ x. Named (name x)) xs) ≡ names_held (map name xs)
+held_names name [] = refl
+held_names name (x ∷ xs) = ap (both_held (names_held (name x ∷ []))) (held_names name xs)
+
+-- the built-in macros
+held_entity : (so : Bool) → all_held [] (held_where so (codes "ENTITY")) ≡ record { entity = so; event = false; any = false; relation = false; names = [] }
+held_entity true = refl
+held_entity false = refl
+
+held_event : (so : Bool) → all_held [] (held_where so (codes "EVENT")) ≡ record { entity = false; event = so; any = false; relation = false; names = [] }
+held_event true = refl
+held_event false = refl
+
+held_any : (so : Bool) → all_held [] (held_where so (codes "ANY")) ≡ record { entity = false; event = false; any = so; relation = false; names = [] }
+held_any true = refl
+held_any false = refl
+
+held_relation : (so : Bool) → all_held [] (held_where so (codes "RELATION")) ≡ record { entity = false; event = false; any = false; relation = so; names = [] }
+held_relation true = refl
+held_relation false = refl
+
+both_are : (entity event any relation : Bool) (b r : List (List ℕ))
+    → both_held (both_held (both_held (both_held (both_held (record { entity = entity; event = false; any = false; relation = false; names = [] }) (record { entity = false; event = event; any = false; relation = false; names = [] }))
+    (record { entity = false; event = false; any = any; relation = false; names = [] })) (record { entity = false; event = false; any = false; relation = relation; names = [] })) (names_held b)) (names_held r)
+    ≡ record { entity = entity; event = event; any = any; relation = relation; names = b ++ r }
+both_are true true true true = λ b r. refl
+both_are true true true false = λ b r. refl
+both_are true true false true = λ b r. refl
+both_are true true false false = λ b r. refl
+both_are true false true true = λ b r. refl
+both_are true false true false = λ b r. refl
+both_are true false false true = λ b r. refl
+both_are true false false false = λ b r. refl
+both_are false true true true = λ b r. refl
+both_are false true true false = λ b r. refl
+both_are false true false true = λ b r. refl
+both_are false true false false = λ b r. refl
+both_are false false true true = λ b r. refl
+both_are false false true false = λ b r. refl
+both_are false false false true = λ b r. refl
+both_are false false false false = λ b r. refl
+
+-- what written alternatives hold: what is said, and the names of the places
+pub held_again : (conf : Configuration) (named : Alternatives) → all_held [] (written_alternatives conf named)
+    ≡ record { entity = named.entity; event = named.event; any = named.any; relation = named.relation; names = named_names conf named }
+held_again conf named =
+    all_held-append (held_where named.entity (codes "ENTITY") ++ held_where named.event (codes "EVENT") ++ held_where named.any (codes "ANY") ++ held_where named.relation (codes "RELATION") ++ map (λ place. Named (type_name_at conf place)) named.bound) (map (λ place. Named (relation_name_at conf place)) named.between)
+    ∙ ap₂ both_held
+    (all_held-append (held_where named.entity (codes "ENTITY") ++ held_where named.event (codes "EVENT") ++ held_where named.any (codes "ANY") ++ held_where named.relation (codes "RELATION")) (map (λ place. Named (type_name_at conf place)) named.bound)
+    ∙ ap₂ both_held
+    (all_held-append (held_where named.entity (codes "ENTITY") ++ held_where named.event (codes "EVENT") ++ held_where named.any (codes "ANY")) (held_where named.relation (codes "RELATION"))
+    ∙ ap₂ both_held
+    (all_held-append (held_where named.entity (codes "ENTITY") ++ held_where named.event (codes "EVENT")) (held_where named.any (codes "ANY"))
+    ∙ ap₂ both_held
+    (all_held-append (held_where named.entity (codes "ENTITY")) (held_where named.event (codes "EVENT")) ∙ ap₂ both_held (held_entity named.entity) (held_event named.event))
+    (held_any named.any)) (held_relation named.relation)) (held_names (type_name_at conf) named.bound)) (held_names (relation_name_at conf) named.between)
+    ∙ both_are named.entity named.event named.any named.relation (map (type_name_at conf) named.bound) (map (relation_name_at conf) named.between)
+
+-- a file that has the names of the configuration and no macros
+pub record HasNames (file : File) (conf : Configuration) : Type 0 where
+  pub macros : file.macros ≡ []
+  pub types : names_of (bound_names file) ≡ map (λ row. row.name) conf.types
+  pub relations : names_of (of_named (firsts file.relations)) ≡ map (λ relation. relation.name) conf.relations
+
+-- written alternatives resolve to what was written
+pub resolved_again : (file : File) (conf : Configuration) → HasNames file conf → (relations : Bool) (named : Alternatives) → AreTargets conf relations named
+    → resolved file relations (written_alternatives conf named) ≡ named
+resolved_again file conf has relations named sound =
+    ap (λ macros. of_holding (all_held macros (written_alternatives conf named)) (names_of (bound_names file)) (names_of (of_named (firsts file.relations)))) has.macros
+    ∙ ap (λ h. of_holding h (names_of (bound_names file)) (names_of (of_named (firsts file.relations)))) (held_again conf named)
+    ∙ ap₂ (of_holding (record { entity = named.entity; event = named.event; any = named.any; relation = named.relation; names = named_names conf named })) has.types has.relations
+    ∙ ap₂ (λ (b r : List ℕ). record { entity = named.entity; event = named.event; any = named.any; relation = named.relation; bound = b; between = r }) sound.bound sound.between
+  where
+    of_holding : Holding → List (List ℕ) → List (List ℕ) → Alternatives
+    of_holding holding types names = record {
+      entity = holding.entity;
+      event = holding.event;
+      any = holding.any;
+      relation = holding.relation;
+      bound = places_of holding.names types;
+      between = cond relations (places_of holding.names names) [];
+    }

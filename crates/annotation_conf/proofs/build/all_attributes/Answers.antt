@@ -1,0 +1,16 @@
+use Rattle.std.proofs.Common.{◌≡◌, ◌∙◌, ◌+◌, ◌≤◌, ◌++◌, [], List, ℕ, sym, ap, subst, length, arith, map, IfOk, false, true}
+use Rattle.annotation_conf.specs.declared.file.File.{File as FileValue}
+use Rattle.annotation_conf.specs.ConfNames.{File}
+use Rattle.annotation_conf.specs.KnownFiles.{IsKnown}
+use Rattle.annotation_conf.specs.Configurations.{AttributeType}
+use Rattle.annotation_conf.specs.BuildTold.{attribute_kept}
+use Rattle.annotation_conf.proofs.BuildTables.{attributes_shown}
+use Rattle.annotation_conf.proofs.build.all_attributes.Goals as goal
+
+pub returns : goal.returns
+returns c =
+    let file : File = c.args.resolver.now in
+    let values : FileValue = c.file.result.now in
+    let known : IsKnown values file = (let P : File → Type 0 = λ f. IsKnown values f in subst P c.names.ensures.value c.file.ensures) in
+    let P : List AttributeType → Type 0 = λ xs. IfOk c.attributes.result (λ rows. rows.items ≡ xs) in
+    subst P (ap (map (attribute_kept file)) c.deref.ensures.value ∙ attributes_shown file values c.args.text.now known c.requires) c.attributes.ensures

@@ -1,0 +1,16 @@
+use Rattle.std.proofs.Common.{◌≡◌, ◌∙◌, ◌+◌, ◌≤◌, ◌++◌, [], List, ℕ, sym, ap, subst, length, arith, map, IfOk, false, true}
+use Rattle.annotation_conf.specs.declared.file.File.{File as FileValue}
+use Rattle.annotation_conf.specs.ConfNames.{File}
+use Rattle.annotation_conf.specs.KnownFiles.{IsKnown}
+use Rattle.annotation_conf.specs.Configurations.{Overlap}
+use Rattle.annotation_conf.specs.BuildTold.{overlap_kept}
+use Rattle.annotation_conf.proofs.BuildTables.{overlaps_shown}
+use Rattle.annotation_conf.proofs.build.all_overlaps.Goals as goal
+
+pub returns : goal.returns
+returns c =
+    let file : File = c.args.resolver.now in
+    let values : FileValue = c.file.result.now in
+    let known : IsKnown values file = (let P : File → Type 0 = λ f. IsKnown values f in subst P c.names.ensures.value c.file.ensures) in
+    let P : List Overlap → Type 0 = λ xs. IfOk c.overlaps.result (λ rows. rows.items ≡ xs) in
+    subst P (ap (map (overlap_kept file)) c.deref.ensures.value ∙ overlaps_shown file values known) c.overlaps.ensures

@@ -1,0 +1,20 @@
+use Rattle.std.proofs.Common.{◌≡◌, ◌∙◌, ◌+◌, ◌≤◌, ◌++◌, [], List, ℕ, sym, ap, subst, length, arith, map, IfOk, false, true}
+use Rattle.annotation_conf.specs.declared.file.File.{File as FileValue}
+use Rattle.annotation_conf.specs.ConfNames.{File}
+use Rattle.annotation_conf.specs.KnownFiles.{IsKnown}
+use Rattle.annotation_conf.specs.Configurations.{Role}
+use Rattle.annotation_conf.specs.declared.file.TypeLine.{TypeLine}
+use Rattle.annotation_conf.specs.BuildTold.{roles_kept}
+use Rattle.annotation_conf.proofs.BuildTables.{roles_shown}
+use Rattle.annotation_conf.proofs.build.all_roles.Goals as goal
+
+pub returns : goal.returns
+returns c =
+    let file : File = c.args.resolver.now in
+    let values : FileValue = c.file-file.result.now in
+    let known : IsKnown values file = (let P : File → Type 0 = λ f. IsKnown values f in subst P c.names.ensures.value c.file-file.ensures) in
+    let P : List (List Role) → Type 0 = λ xs. IfOk c.roles_of_types.result (λ rows. rows.items ≡ xs) in
+    subst P
+    (ap (λ xs. map (λ (line : TypeLine). []) xs ++ map (roles_kept file) c.deref-2.result.now) c.deref.ensures.value
+    ∙ ap (λ xs. map (λ (line : TypeLine). []) values.entities.items ++ map (roles_kept file) xs) c.deref-2.ensures.value
+    ∙ roles_shown file values known) c.roles_of_types.ensures

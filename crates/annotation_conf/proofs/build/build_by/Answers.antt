@@ -1,0 +1,17 @@
+use Rattle.std.proofs.Common.{◌≡◌, ◌∙◌, sym, ap, subst}
+use Rattle.annotation_conf.specs.Kept.{IsKept}
+use Rattle.annotation_conf.proofs.BuildLaws.{kept_is, conf_same}
+use Rattle.annotation_conf.proofs.build.build_by.Goals as goal
+
+pub of-requires : goal.of-requires
+of-requires c =
+    subst IsKept
+    (sym
+    (conf_same c.args.resolver.now _ _ _ _ _ (c.in_ok-types.ensures ∙ c.in_ok-all_rows.ensures.rows) c.in_ok-roles.ensures c.in_ok-relations.ensures c.in_ok-attributes.ensures c.in_ok-overlaps.ensures))
+    (kept_is c.args.text.now c.args.resolver.now c.requires)
+
+pub returns : goal.returns
+returns c =
+    c.of.ensures
+    ∙
+    (conf_same c.args.resolver.now _ _ _ _ _ (c.in_ok-types.ensures ∙ c.in_ok-all_rows.ensures.rows) c.in_ok-roles.ensures c.in_ok-relations.ensures c.in_ok-attributes.ensures c.in_ok-overlaps.ensures)

@@ -1,0 +1,5 @@
+use Rattle.std.proofs.Common.{length}
+use Rattle.annotation_conf.proofs.canonical_text.+push_tabs.Given as goal
+
+abbrev pub decreases-push_tabs : goal.decreases-push_tabs
+decreases-push_tabs l = l.depth

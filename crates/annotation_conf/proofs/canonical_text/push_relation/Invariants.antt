@@ -1,0 +1,7 @@
+use Rattle.std.proofs.Common.{◌≡◌, ◌++◌, string_bytes, take}
+use Rattle.std.specs.List.{flat_map}
+use Rattle.annotation_conf.specs.ConfText.{arguments_text}
+use Rattle.annotation_conf.proofs.canonical_text.push_relation.Given as goal
+
+abbrev pub invariant-loop-line : goal.invariant-loop-line
+invariant-loop-line l = string_bytes l.out ≡ string_bytes l.initial.out ++ flat_map (arguments_text l.conf l.relation) (take l.line-index l.relation.lines)

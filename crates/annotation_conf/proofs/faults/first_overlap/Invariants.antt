@@ -1,0 +1,8 @@
+use Rattle.std.proofs.Common.{◌≡◌, drop, None, take, length}
+use Rattle.annotation_conf.specs.FirstFaults.{first_among}
+use Rattle.annotation_conf.specs.FaultsTold.{overlap_told}
+use Rattle.annotation_conf.proofs.faults.first_overlap.Given as goal
+
+abbrev pub invariant-loop-line : goal.invariant-loop-line
+invariant-loop-line l =
+    first_among (λ line. line.number) (overlap_told l.known) (drop l.line-index l.lines) ≡ first_among (λ line. line.number) (overlap_told l.known) l.lines

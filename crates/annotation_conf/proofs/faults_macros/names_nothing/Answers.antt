@@ -1,0 +1,14 @@
+use Rattle.std.proofs.Common.{◌≡◌, ◌∙◌, sym, ap, length, false}
+use Rattle.std.specs.Option.{option_map_or}
+use Rattle.annotation_conf.specs.declared.faults_macros.Kinds.{Kinds}
+use Rattle.annotation_conf.specs.FileShows.{seen_alternative}
+use Rattle.annotation_conf.proofs.FaultMacros.{nothing_by}
+use Rattle.annotation_conf.proofs.faults_macros.names_nothing.Goals as goal
+
+pub returns-in-Some : goal.returns-in-Some
+returns-in-Some c =
+    ap (λ o. option_map_or (λ (k : Kinds). k.nothing) o false) (sym c.in-Some.is ∙ c.held.ensures) ∙ nothing_by c.args.known.now (length c.args.kinds.now) (seen_alternative c.args.one.now)
+
+pub returns-in-None : goal.returns-in-None
+returns-in-None c =
+    ap (λ o. option_map_or (λ (k : Kinds). k.nothing) o false) (sym c.in-None.is ∙ c.held.ensures) ∙ nothing_by c.args.known.now (length c.args.kinds.now) (seen_alternative c.args.one.now)

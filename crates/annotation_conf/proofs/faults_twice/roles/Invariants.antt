@@ -1,0 +1,8 @@
+use Rattle.std.proofs.Common.{◌≡◌, take, map}
+use Rattle.annotation_conf.specs.ConfFaults.{names_of}
+use Rattle.annotation_conf.specs.FileShows.{seen_pair}
+use Rattle.annotation_conf.specs.NamesKnown.{seen_declared}
+use Rattle.annotation_conf.proofs.faults_twice.roles.Given as goal
+
+abbrev pub invariant-loop-pair : goal.invariant-loop-pair
+invariant-loop-pair l = names_of (map seen_declared l.names.items) ≡ map (λ pair. (seen_pair pair).role) (take l.pair-index l.pairs)

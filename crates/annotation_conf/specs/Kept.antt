@@ -1,0 +1,14 @@
+-- What every configuration keeps.
+use Rattle.std.specs.Prelude.{◌≡◌, ℕ, ◌≤◌, List, length, Ok}
+use Rattle.annotation_conf.specs.Configurations.{Role, RelationType, AttributeType, Configuration}
+use Rattle.annotation_conf.specs.ConfOf.{conf_of}
+use Rattle.std.specs.List.{All}
+
+-- it is what some bytes say, and its tables have at most 256 rows
+pub record IsKept (conf : Configuration) : Type 0 where
+  pub bytes : List ℕ
+  pub says : conf_of bytes ≡ Ok conf
+  pub few_relations : length conf.relations ≤ 256
+  pub few_attributes : length conf.attributes ≤ 256
+  pub few_roles : All (λ roles. length roles ≤ 256) conf.roles
+  pub few_values : All (λ (attribute : AttributeType). length attribute.values ≤ 256) conf.attributes

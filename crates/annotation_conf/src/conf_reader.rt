@@ -1,0 +1,82 @@
+//! Reading annotation.conf.
+ghost use Rattle.std.specs.Prelude.{◌≡◌, ◌≤◌, ◌<◌, ◌+◌, ◌==◌, length, take, count_by, IfOk, IfErr, Ok, None};
+ghost use Rattle.std.specs.Str.Lossy.{utf8_valid_len};
+ghost use Rattle.annotation_conf.specs.ConfNames.{file_of};
+ghost use Rattle.annotation_conf.specs.ConfOf.{conf_of};
+ghost use Rattle.annotation_conf.specs.ReadFaults.{IsFault};
+ghost use Rattle.annotation_conf.specs.FileShows.{Shows};
+
+use crate::build::build;
+use crate::faults::any_fault;
+use crate::faults_known::KnownNames;
+use crate::faults_macros::KnownMacros;
+use crate::file::{File, read_file};
+use crate::{Conf, ConfFault, ConfWhat};
+use mark_base::Memory;
+use std::alloc::Global;
+use std::str;
+
+/// How many lines end in some bytes.
+fn line_ends(bytes: &[u8]) -> usize
+    ensures value { result ≡ count_by (λ b. b == 10) bytes.now }
+    ensures bound { result ≤ length bytes.now }
+{
+    bytes.iter().filter(|byte| **byte == b'\n').count()
+}
+
+/// The configuration of the file of a text, or its first fault.
+fn conf_of_known(alloc: Global, text: &str, known: &KnownMacros) -> Result<Conf, ConfFault>
+    requires file { known.now ≡ file_of text.now }
+    requires short { length text.now ≤ 4194304 }
+    ensures read { IfOk result (λ conf. conf_of text.now ≡ Ok conf) }
+    ensures fault { IfErr result (IsFault text.now) }
+{
+    match any_fault(alloc, known)? {
+        Some(fault) => Err(ConfFault::At {
+            line: fault.line,
+            what: fault.what,
+        }),
+        None => Ok(build(alloc, text, known)?),
+    }
+}
+
+/// The names and the macros of the file of a text.
+fn know_file<'a>(alloc: Global, text: &'a str, file: &'a File) -> Result<KnownMacros<'a>, Memory>
+    requires { Shows file.now (file_of text.now) }
+    ensures { IfOk result (λ known. known ≡ file_of text.now) }
+{
+    let names = KnownNames::of(alloc, text, file)?;
+    KnownMacros::of(alloc, names)
+}
+
+/// The configuration that a text spells, or its first fault.
+fn read_text(alloc: Global, text: &str) -> Result<Conf, ConfFault>
+    requires { length text.now ≤ 4194304 }
+    ensures read { IfOk result (λ conf. conf_of text.now ≡ Ok conf) }
+    ensures fault { IfErr result (IsFault text.now) }
+{
+    let file = read_file(alloc, text)?;
+    let known = know_file(alloc, text, &file)?;
+    conf_of_known(alloc, text, &known)
+}
+
+/// Reads annotation.conf, of at most 4,194,304 bytes. The fault is the first of the file, and of those
+/// on one line the first in the order of [`ConfWhat`]; bytes that are not UTF-8 come before all others.
+/// Memory may run out at any time. Cost: the bytes, and the number of alternatives times the logarithm of
+/// the number of types.
+pub fn read_conf(alloc: Global, bytes: &[u8]) -> Result<Conf, ConfFault>
+    requires { length bytes.now ≤ 4194304 }
+    ensures read { IfOk result (λ conf. conf_of bytes.now ≡ Ok conf) }
+    ensures fault { IfErr result (IsFault bytes.now) }
+{
+    match str::from_utf8(bytes) {
+        Ok(text) => read_text(alloc, text),
+        Err(error) => {
+            let valid = error.valid_up_to();
+            Err(ConfFault::At {
+                line: line_ends(&bytes[..valid]) as u32 + 1,
+                what: ConfWhat::NotUtf8,
+            })
+        }
+    }
+}

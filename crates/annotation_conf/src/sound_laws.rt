@@ -1,0 +1,17 @@
+//! What every configuration that was read keeps, and that its canonical text is read back as it.
+ghost use Rattle.std.specs.Prelude.{◌≡◌, Ok};
+ghost use Rattle.annotation_conf.specs.ConfOf.{conf_of};
+ghost use Rattle.annotation_conf.specs.ConfText.{conf_text};
+ghost use Rattle.annotation_conf.specs.Configurations.{Configuration};
+ghost use Rattle.annotation_conf.specs.Sound.{IsSound};
+
+// A configuration that was read is sound.
+fn a_configuration_that_was_read_is_sound(bytes: &[u8])
+    ensures { (conf : Configuration) → conf_of bytes.now ≡ Ok conf → IsSound conf }
+{}
+
+// The text of a sound configuration is read back as it, and so is that of one that was read.
+fn the_text_of_a_sound_configuration_is_read_back(bytes: &[u8])
+    ensures sound { (conf : Configuration) → IsSound conf → conf_of (conf_text conf) ≡ Ok conf }
+    ensures was_read { (conf : Configuration) → conf_of bytes.now ≡ Ok conf → conf_of (conf_text conf) ≡ Ok conf }
+{}
