@@ -6,9 +6,10 @@ ghost use Rattle.annotation_http.specs.Desk.{added, exchange, is_route, is_you, 
 use crate::add_span::{AddSpan, read_add_span};
 use crate::ann_lines::ann_lines;
 use crate::answers::tell_made;
+use crate::span_list::SpanList;
 use char_documents::{Doc, DocFault};
 use http_wire::{Answer, Media, Message};
-use layer_model::{Layer, Span};
+use layer_model::Span;
 use mark_base::{Frag, FragList, Memory, Name, Text, TypeId};
 use std::alloc::Global;
 use std::marker::Model;
@@ -25,7 +26,7 @@ pub struct FirstDesk {
     alloc: Global,
     types: Vec<Name>,
     text: Doc,
-    layer: Layer,
+    spans: SpanList,
 }
 
 impl Model for FirstDesk {
@@ -33,9 +34,9 @@ impl Model for FirstDesk {
 
     ghost Value = { DeskState };
 
-    ghost view = { λ desk. record { types = desk.types.items; text = desk.text; spans = desk.layer } };
+    ghost view = { λ desk. record { types = desk.types.items; text = desk.text; spans = desk.spans } };
 
-    ghost invariant = { λ desk. IsSoundDesk desk.types.items desk.text desk.layer };
+    ghost invariant = { λ desk. IsSoundDesk desk.types.items desk.text desk.spans };
 }
 
 /// Whether the caller is the desk's annotator.
@@ -79,7 +80,7 @@ impl FirstDesk {
             alloc,
             types,
             text,
-            layer: Layer::new(alloc),
+            spans: SpanList::new(alloc),
         })
     }
 
@@ -97,12 +98,12 @@ impl FirstDesk {
         if self.text.char_count() < frag.end {
             return Answer::refusal(alloc, 422, "OutOfText");
         }
-        if frag.end - frag.start > LONGEST_SPAN || self.layer.has(kind, &[frag]) {
+        if frag.end - frag.start > LONGEST_SPAN || self.spans.has(kind, &[frag]) {
             return Answer::refusal(alloc, 501, "NotYet");
         }
-        let answer = tell_made(alloc, self.layer.spans().len() + 1)?;
+        let answer = tell_made(alloc, self.spans.spans().len() + 1)?;
         let frags = FragList::of(alloc, &[frag])?;
-        self.layer.add(Span { kind, frags })?;
+        self.spans.add(Span { kind, frags })?;
         Ok(answer)
     }
 
@@ -126,7 +127,7 @@ impl FirstDesk {
         ensures status { IfOk result (λ answer. IsStatusCode answer.status) }
         ensures kept { OnErr result (self.new ≡ self.old) }
     {
-        if self.layer.spans().len() >= MOST_SPANS {
+        if self.spans.spans().len() >= MOST_SPANS {
             return Answer::refusal(self.alloc, 501, "NotYet");
         }
         let place = find_type(&self.types, wanted.kind.text());
@@ -138,7 +139,7 @@ impl FirstDesk {
         ensures done { IfOk result (λ answer. answer ≡ lines_of self.now) }
         ensures status { IfOk result (λ answer. IsStatusCode answer.status) }
     {
-        let body = ann_lines(self.alloc, &self.types, &self.text, self.layer.spans())?;
+        let body = ann_lines(self.alloc, &self.types, &self.text, self.spans.spans())?;
         Ok(Answer {
             status: 200,
             media: Media::Plain,

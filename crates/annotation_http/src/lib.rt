@@ -20,6 +20,7 @@ mod desk;
 mod examples;
 mod fragment;
 mod session;
+mod span_list;
 #[cfg(test)]
 mod tests;
 

@@ -1,0 +1,12 @@
+pub mod Chains
+pub mod ClassJoin
+pub mod ClassOrder
+pub mod ClassPart
+pub mod Coherence
+pub mod Free
+pub mod Gathering
+pub mod Holders
+pub mod IdSets
+pub mod Maps
+pub mod Numbers
+pub mod Undo

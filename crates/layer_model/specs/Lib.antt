@@ -1,1 +1,9 @@
+pub mod Annotations
+pub mod Classes
+pub mod Coherent
+pub mod IdSets
+pub mod Layers
+pub mod Numbers
+pub mod Rules
+pub mod Snapshots
 pub mod Span

@@ -6,7 +6,7 @@ use mark_base::{Frag, FragList, TypeId};
 
 /// A text-bound annotation: a type and the fragments of the text that it marks (brat standoff manual,
 /// "Text-bound annotations").
-#[derive(Debug, Drop)]
+#[derive(Clone, Debug, Drop)]
 pub struct Span {
     pub kind: TypeId,
     pub frags: FragList,
