@@ -1,0 +1,5 @@
+mod CoverLemmas
+mod IndexLemmas
+pub mod Laws
+mod OrderLemmas
+mod TouchLemmas
