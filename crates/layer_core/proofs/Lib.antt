@@ -1,0 +1,19 @@
+mod BagLemmas
+mod ChainLemmas
+mod CheckLemmas
+mod CommitLemmas
+mod FirstSeenLemmas
+mod FlawLemmas
+mod FullLemmas
+pub mod LawLemmas
+mod OverlapLemmas
+mod PairLemmas
+pub mod PassLemmas
+pub mod PlaceLemmas
+mod RecordLemmas
+mod RuleNumbers
+mod SameAttributeLemmas
+mod SameEventLemmas
+mod SameRelationLemmas
+mod SameSpanLemmas
+mod WalkLemmas

@@ -1,0 +1,12 @@
+pub mod Chains
+pub mod CheckFaults
+pub mod EventKeys
+pub mod FirstSeen
+pub mod Ids
+pub mod PairRules
+pub mod Places
+pub mod Rules
+pub mod SpanRules
+pub mod Targets
+pub mod Walk
+pub mod WellFormed

@@ -1,0 +1,31 @@
+//! The rules that a layer keeps: which layers are well-formed for a configuration and a text.
+#![tactic(auto)]
+
+mod check_fault;
+mod class_rules;
+mod commit;
+mod deep;
+mod first_seen;
+mod full;
+mod laws;
+mod layer_check;
+mod mark_rules;
+mod overlaps;
+mod passes;
+mod same_attributes;
+mod same_events;
+mod same_relations;
+mod same_spans;
+mod scene;
+mod targets;
+#[cfg(test)]
+mod tests;
+mod text_rules;
+mod walk;
+mod worked_rows;
+
+pub use crate::check_fault::CheckFault;
+pub use crate::commit::may_commit;
+pub use crate::laws::unflawed_layers;
+pub use crate::layer_check::check;
+pub use crate::worked_rows::examples_of_fields;
