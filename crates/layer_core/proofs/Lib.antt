@@ -17,3 +17,4 @@ mod SameEventLemmas
 mod SameRelationLemmas
 mod SameSpanLemmas
 mod WalkLemmas
+mod CommandLemmas

@@ -1,6 +1,9 @@
 pub mod Chains
 pub mod CheckFaults
+pub mod Commands
+pub mod Drafts
 pub mod EventKeys
+pub mod Fields
 pub mod FirstSeen
 pub mod Ids
 pub mod PairRules

@@ -69,15 +69,19 @@ lower_pair pairs layer id mark = find (λ other. nat_lt (id_place other) (id_pla
 abbrev pub same_span : Annotations → AnnId → Mark → Option Rule
 same_span layer id mark = option_map SameSpan (lower_pair same_spans layer id mark)
 
+-- the same of events
 abbrev pub same_event : Annotations → AnnId → Mark → Option Rule
 same_event layer id mark = option_map SameEvent (lower_pair same_events layer id mark)
 
+-- the same of relations
 abbrev pub same_relation : Annotations → AnnId → Mark → Option Rule
 same_relation layer id mark = option_map SameRelation (lower_pair same_relations layer id mark)
 
+-- the same of attributes, of which the lower one is there already
 abbrev pub attribute_there : Annotations → AnnId → Mark → Option Rule
 attribute_there layer id mark = option_map AttributeThere (lower_pair same_attributes layer id mark)
 
+-- the same of spans whose overlap is not allowed
 abbrev pub overlap_refused : Configuration → Annotations → AnnId → Mark → Option Rule
 overlap_refused conf layer id mark = option_map OverlapRefused (lower_pair (refused_overlap conf) layer id mark)
 

@@ -1,8 +1,19 @@
 //! The rules that a layer keeps: which layers are well-formed for a configuration and a text.
+//!
+//! [`check`] answers Ok exactly for a well-formed [`Layer`](layer_model::Layer), and else its least flaw,
+//! with its place; [`may_commit`] tells the first event that lacks arguments. A [`Command`] is a change that
+//! an annotator asks for; what it does is defined in `specs/Commands.antt`, and no call carries it out yet.
+//!
+//! ```text
+//! check(alloc, &layer, &doc, &conf)?;
+//! may_commit(&layer, &conf);
+//! ```
 #![tactic(auto)]
 
 mod check_fault;
 mod class_rules;
+mod command;
+mod command_laws;
 mod commit;
 mod deep;
 mod first_seen;
@@ -25,6 +36,8 @@ mod walk;
 mod worked_rows;
 
 pub use crate::check_fault::CheckFault;
+pub use crate::command::Command;
+pub use crate::command_laws::commands_keep_layers;
 pub use crate::commit::may_commit;
 pub use crate::laws::unflawed_layers;
 pub use crate::layer_check::check;
