@@ -29,8 +29,6 @@ mod same_relations;
 mod same_spans;
 mod scene;
 mod targets;
-#[cfg(test)]
-mod tests;
 mod text_rules;
 mod walk;
 mod worked_rows;
