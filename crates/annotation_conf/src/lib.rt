@@ -47,8 +47,6 @@ mod pieces;
 mod relation_type;
 mod role;
 mod sound_laws;
-#[cfg(test)]
-mod tests;
 mod worked_rows;
 mod write_laws;
 
