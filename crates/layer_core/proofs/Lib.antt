@@ -1,6 +1,7 @@
 mod BagLemmas
 mod ChainLemmas
 mod CheckLemmas
+mod CoherenceLemmas
 mod CommitLemmas
 mod FirstSeenLemmas
 mod FlawLemmas

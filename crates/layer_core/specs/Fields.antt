@@ -114,6 +114,7 @@ pub data Valued : Type 0 where
   Undeclared : Valued
   Declared : Option ℕ → Valued
 
+-- what a name of a value, or none, says of an attribute
 abbrev pub value_of : Configuration → ℕ → Option (List ℕ) → Valued
 value_of conf attribute None = Declared None
 value_of conf attribute (Some name) = option_map_or (λ value. Declared (Some value)) (value_named conf attribute name) Undeclared

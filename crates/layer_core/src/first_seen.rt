@@ -1,27 +1,10 @@
 //! Annotations that stand for the same numbers as one before them.
 ghost use Rattle.std.specs.Prelude.{◌≡◌, [], IfOk, map};
-ghost use Rattle.layer_model.specs.Classes.{rank};
 ghost use Rattle.layer_core.specs.FirstSeen.{repeat_after, shown};
 
-use mark_base::{AnnId, Kind, Memory};
+use mark_base::{AnnId, Memory};
 use std::alloc::Global;
 use std::collections::BTreeMap;
-
-/// The place of an ID among all IDs.
-pub(crate) fn rank(id: AnnId) -> u64
-    ensures { result ≡ rank id }
-{
-    let letter: u64 = match id.kind {
-        Kind::Text => 0,
-        Kind::Event => 1,
-        Kind::Relation => 2,
-        Kind::Attribute => 3,
-        Kind::Legacy => 4,
-        Kind::Normal => 5,
-        Kind::Note => 6,
-    };
-    letter * 1_000_000_000 + u64::from(id.number)
-}
 
 /// An annotation and the numbers that stand for it: two annotations are alike where these are equal.
 #[derive(Drop)]

@@ -29,6 +29,8 @@ mod same_relations;
 mod same_spans;
 mod scene;
 mod targets;
+#[cfg(test)]
+mod tests;
 mod text_rules;
 mod walk;
 mod worked_rows;
@@ -37,6 +39,6 @@ pub use crate::check_fault::CheckFault;
 pub use crate::command::Command;
 pub use crate::command_laws::commands_keep_layers;
 pub use crate::commit::may_commit;
-pub use crate::laws::unflawed_layers;
+pub use crate::laws::{unflawed_layers, well_formed_layers_cohere};
 pub use crate::layer_check::check;
 pub use crate::worked_rows::examples_of_fields;

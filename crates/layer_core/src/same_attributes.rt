@@ -6,9 +6,9 @@ ghost use Rattle.layer_core.specs.FirstSeen.{attribute_key, keyed, shown};
 ghost use Rattle.layer_core.specs.Places.{first_place, places};
 ghost use Rattle.layer_core.specs.WellFormed.{at_attribute_there};
 
-use crate::first_seen::{KeyedId, first_repeat, rank};
+use crate::first_seen::{KeyedId, first_repeat};
 use crate::targets::id_at;
-use layer_model::{Attribute, Flaw, FlawPlace, Layer, Rule};
+use layer_model::{Attribute, Flaw, FlawPlace, Layer, Rule, rank};
 use mark_base::{Kind, Memory};
 use std::alloc::Global;
 use std::collections::BTreeMap;

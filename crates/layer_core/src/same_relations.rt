@@ -7,9 +7,9 @@ ghost use Rattle.layer_core.specs.FirstSeen.{keyed, shown, relation_key};
 ghost use Rattle.layer_core.specs.Places.{first_place, places};
 ghost use Rattle.layer_core.specs.WellFormed.{at_same_relation};
 
-use crate::first_seen::{KeyedId, first_repeat, rank};
+use crate::first_seen::{KeyedId, first_repeat};
 use crate::targets::id_at;
-use layer_model::{Flaw, FlawPlace, Layer, Relation, Rule};
+use layer_model::{Flaw, FlawPlace, Layer, Relation, Rule, rank};
 use mark_base::{Kind, Memory};
 use std::alloc::Global;
 use std::collections::BTreeMap;

@@ -33,6 +33,7 @@ pub record Annotations : Type 0 where
 abbrev pub Tuple : Type 0
 Tuple = map.FinMap nat_cmp Span × (map.FinMap nat_cmp Event × (map.FinMap nat_cmp Relation × (map.FinMap nat_cmp Attribute × (map.FinMap nat_cmp Attribute × (map.FinMap nat_cmp Normal × (map.FinMap nat_cmp Note × List Class))))))
 
+-- how the tuple is stored, by how its parts are
 abbrev pub tuple_code : Coded Tuple
 tuple_code =
     coded× (map.code coded_ℕ span_row.the_row.coded) (coded× (map.code coded_ℕ event_row.the_row.coded) (coded× (map.code coded_ℕ relation_row.the_row.coded) (coded× (map.code coded_ℕ attribute_row.the_row.coded) (coded× (map.code coded_ℕ attribute_row.the_row.coded) (coded× (map.code coded_ℕ normal_row.the_row.coded) (coded× (map.code coded_ℕ note_row.the_row.coded) (coded_list class_row.the_row.coded)))))))

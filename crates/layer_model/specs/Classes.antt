@@ -109,6 +109,7 @@ without_member id class = record class { members = filter (λ member. not (rank 
 abbrev pub settled : Class → List Class → List Class
 settled class classes = if nat_lt (length class.members) 2 then classes else insert_class class classes
 
+-- what is left of the class that had the member takes its place among the others; where none had it they stay
 abbrev pub settled_rest : AnnId → Option Class → List Class → List Class
 settled_rest id None classes = classes
 settled_rest id (Some class) classes = settled (without_member id class) classes

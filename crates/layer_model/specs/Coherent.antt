@@ -153,6 +153,7 @@ AttributesDiffer l = (j k : Kind) (m n : ℕ) (a b : Attribute) → attribute_of
 
 -- ---- all of it
 
+-- a layer keeps itself whole: what is named is there and fits, no chain is too deep, and no two annotations are alike
 pub record IsCoherent (l : Annotations) : Type 0 where
   pub stand : NamesStand l
   pub letters : LettersFit l

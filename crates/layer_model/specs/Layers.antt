@@ -26,12 +26,13 @@ mark_of l letter.Note n = option_map marked.Note (finite.get l.notes n)
 abbrev pub mark_at : Annotations → AnnId → Option Mark
 mark_at l id = mark_of l id.kind id.number
 
--- the attribute under an ID of the letter A or M
+-- the attribute under the letter A or M and the number
 abbrev pub attribute_of : Annotations → Kind → ℕ → Option Attribute
 attribute_of l letter.Attribute n = finite.get l.attributes n
 attribute_of l letter.Legacy n = finite.get l.legacy n
 attribute_of l kind n = None
 
+-- the attribute under an ID of the letter A or M
 abbrev pub attribute_at : Annotations → AnnId → Option Attribute
 attribute_at l id = attribute_of l id.kind id.number
 
@@ -119,6 +120,7 @@ with_classes l classes = record l { classes = classes }
 
 -- ---- what every layer keeps
 
+-- the numbers of each letter are those of IDs, and the classes stand in their order
 pub record IsLayer (l : Annotations) : Type 0 where
   pub spans : NumbersFit l.spans
   pub events : NumbersFit l.events

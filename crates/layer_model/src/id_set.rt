@@ -7,8 +7,8 @@ use std::alloc::Global;
 use std::collections::BTreeMap;
 use std::marker::Model;
 
-/// The place of an ID among all IDs.
-pub(crate) fn rank(id: AnnId) -> u64
+/// The place of an ID among all IDs, which are ordered by letter, then by number.
+pub fn rank(id: AnnId) -> u64
     ensures { result ≡ rank id }
 {
     let letter: u64 = match id.kind {
