@@ -6,6 +6,7 @@ ghost use Rattle.annotation_conf.specs.ConfOf.{conf_of};
 ghost use Rattle.annotation_conf.specs.ConfText.{conf_text};
 ghost use Rattle.annotation_conf.specs.Kept.{IsKept};
 ghost use Rattle.annotation_conf.specs.Lookups.{relation_named, relation_name, relation_role, is_equivalence, relation_admits, relation_admits_first, roles_of, role_named, role_name, role_least, role_most, role_admits, attribute_named, attribute_name, values_of, value_named, targets_admit, attribute_admits, overlap_allowed, usable_in, category_of, categories_of};
+ghost use Rattle.annotation_conf.specs.Sound.{IsSound};
 
 use crate::admission::{admits, admits_relation, some_line_admits, some_line_admits_first};
 use crate::overlap_line::{is_apart, some_line_allows};
@@ -100,9 +101,10 @@ impl Conf {
         }
     }
 
-    /// The canonical text of a configuration is read as that configuration.
+    /// The canonical text of a configuration is read as that configuration, and the configuration is sound.
     pub fn reads_back(&self)
-        ensures { conf_of (conf_text self.now) ≡ Ok self.now }
+        ensures again { conf_of (conf_text self.now) ≡ Ok self.now }
+        ensures sound { IsSound self.now }
     {
         let _types = &self.types;
     }
