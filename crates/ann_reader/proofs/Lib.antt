@@ -1,0 +1,17 @@
+pub mod AnnLemmas
+pub mod AnswerLemmas
+pub mod ClassLemmas
+pub mod CleanLemmas
+pub mod DigitLemmas
+pub mod FileLemmas
+pub mod FormFacts
+pub mod HeldLemmas
+pub mod LineFaultLemmas
+pub mod PassLemmas
+pub mod ReferenceTexts
+pub mod RoleLemmas
+pub mod SaidLemmas
+pub mod StepLemmas
+pub mod TextCuts
+pub mod TextLemmas
+pub mod UniqueLemmas

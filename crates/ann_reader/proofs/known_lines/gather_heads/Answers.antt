@@ -1,0 +1,40 @@
+use Rattle.std.proofs.Common.{◌≡◌, ◌<◌, ◌≤◌, ◌+◌, ◌++◌, ◌∷◌, [], ℕ, sym, ◌∙◌, ap, subst, length, arith, map, take, get_or, List, Some, None, nat_cmp, is_some}
+use Rattle.std.specs.BTreeMap.{BTreeMap, get, Updates}
+use Rattle.ann_reader.specs.declared.line.Line.{Line as LineValue}
+use Rattle.ann_reader.specs.Lines.{Line}
+use Rattle.ann_reader.specs.LineShows.{seen_line}
+use Rattle.ann_reader.specs.Known.{FindsHeads}
+use Rattle.std.proofs.lemmas.List.{take_all}
+use Rattle.ann_reader.proofs.StepLemmas.{taken, heads_none, heads_again, heads_new}
+use Rattle.ann_reader.proofs.known_lines.gather_heads.Goals as goal
+use Rattle.ann_reader.proofs.known_lines.gather_heads.Goals.{in-Some+then-not-contains_key+in_ok-insert, in-Some+else-not-contains_key, in_default}
+
+pub loop-line-preserved : goal.loop-line-preserved
+loop-line-preserved c =
+    let i : ℕ = c.loop-line.line-index in
+    let d : LineValue = record { number = 0; text = record { ref_ptr = (0, 0); now = [] } } in
+    let below : i < length c.args.lines.now = omega arith in
+    let more : map seen_line (take (i + 1) c.args.lines.now) ≡ map seen_line (take i c.args.lines.now) ++ (seen_line (get_or c.args.lines.now i d) ∷ []) = taken seen_line c.args.lines.now i d below in
+    let P : BTreeMap ℕ ℕ → Type 0 = λ m. FindsHeads (map seen_line (take (i + 1) c.args.lines.now)) m in
+    let Q : BTreeMap ℕ ℕ → List Line → Type 0 = λ m lines. FindsHeads lines m in
+    elim c.match-head_of.branch [
+      | in-Some+then-not-contains_key+in_ok-insert w ↦
+          subst P (sym w.heads-is) (subst (Q w.insert.new.self) (sym more)
+          (heads_new (map seen_line (take i c.args.lines.now)) (seen_line (get_or c.args.lines.now i d)) c.loop-line.heads w.insert.new.self w.in-Some.id c.loop-line.invariant
+          (sym w.in-Some.is ∙ c.head_of.ensures)
+          (ap (λ q. is_some (get nat_cmp c.loop-line.heads q)) (sym w.rank.ensures) ∙ sym w.contains_key.ensures ∙ w.if-not-contains_key.true)
+          (subst (λ q. Updates nat_cmp c.loop-line.heads w.insert.new.self q (Some (get_or c.args.lines.now i d).number)) w.rank-then-not-contains_key.ensures w.in_ok-insert.ensures.updates)))
+      | in-Some+else-not-contains_key w ↦
+          subst P (sym w.heads-is) (subst (Q c.loop-line.heads) (sym more)
+          (heads_again (map seen_line (take i c.args.lines.now)) (seen_line (get_or c.args.lines.now i d)) c.loop-line.heads w.in-Some.id c.loop-line.invariant
+          (sym w.in-Some.is ∙ c.head_of.ensures)
+          (ap (λ q. is_some (get nat_cmp c.loop-line.heads q)) (sym w.rank.ensures) ∙ sym w.contains_key.ensures ∙ w.if-not-contains_key.false)))
+      | in_default w ↦
+          subst P (sym w.heads-is) (subst (Q c.loop-line.heads) (sym more)
+          (heads_none (map seen_line (take i c.args.lines.now)) (seen_line (get_or c.args.lines.now i d)) c.loop-line.heads c.loop-line.invariant (sym w.in_default.is ∙ c.head_of.ensures)))
+    ]
+
+pub returns : goal.returns
+returns c =
+    let over : length c.args.lines.now ≤ c.loop-line.line-index = c.loop-line-test.false in
+    subst (λ ls. FindsHeads (map seen_line ls) c.loop-line.heads) (take_all c.loop-line.line-index c.args.lines.now over) c.loop-line.invariant

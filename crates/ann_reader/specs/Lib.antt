@@ -1,0 +1,16 @@
+pub mod AnnFaults
+pub mod AnnFiles
+pub mod Counts
+pub mod FaultShows
+pub mod FormShows
+pub mod Forms
+pub mod Known
+pub mod LineFaults
+pub mod LineShows
+pub mod Lines
+pub mod Marks
+pub mod NamesRead
+pub mod ReadFaults
+pub mod References
+pub mod Roles
+pub mod Words

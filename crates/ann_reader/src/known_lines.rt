@@ -1,0 +1,97 @@
+//! The lines of a file, with the line of each ID.
+ghost use Rattle.std.specs.Prelude.{◌≡◌, map, IfOk, option_map};
+ghost use Rattle.layer_model.specs.Classes.{rank};
+ghost use Rattle.ann_reader.specs.Lines.{first_field};
+ghost use Rattle.ann_reader.specs.Words.{id_read};
+ghost use Rattle.ann_reader.specs.LineFaults.{headed_by};
+ghost use Rattle.ann_reader.specs.LineShows.{seen_line};
+ghost use Rattle.ann_reader.specs.Known.{FindsHeads};
+
+use crate::line::{Line, before};
+use crate::word::id_read;
+use mark_base::{AnnId, Kind, Memory};
+use std::alloc::Global;
+use std::collections::BTreeMap;
+use std::marker::Model;
+
+/// The place of an ID among all IDs.
+pub(crate) fn rank(id: AnnId) -> u64
+    ensures { result ≡ rank id }
+{
+    let letter: u64 = match id.kind {
+        Kind::Text => 0,
+        Kind::Event => 1,
+        Kind::Relation => 2,
+        Kind::Attribute => 3,
+        Kind::Legacy => 4,
+        Kind::Normal => 5,
+        Kind::Note => 6,
+    };
+    letter * 1_000_000_000 + u64::from(id.number)
+}
+
+/// The lines of a file in their order, and the number of the first line of each ID.
+#[derive(Drop)]
+pub(crate) struct KnownLines<'a> {
+    lines: Vec<Line<'a>>,
+    heads: BTreeMap<u64, u32>,
+}
+
+impl<'a> Model for KnownLines<'a> {
+    ghost use Rattle.std.specs.Prelude.{List, map};
+    ghost use Rattle.ann_reader.specs.Lines.{Line};
+    ghost use Rattle.ann_reader.specs.LineShows.{seen_line};
+    ghost use Rattle.ann_reader.specs.Known.{FindsHeads};
+
+    ghost Value = { List Line };
+
+    ghost view = { λ known. map seen_line known.lines.items };
+
+    ghost invariant = { λ known. FindsHeads (map seen_line known.lines.items) known.heads };
+}
+
+/// The ID that the first field of a line spells.
+fn head_of(line: &Line) -> Option<AnnId>
+    ensures { result ≡ id_read (first_field line.now.text.now) }
+{
+    id_read(before(line.text, b'\t').as_bytes())
+}
+
+/// The number of the first line of each ID.
+fn gather_heads(alloc: Global, lines: &[Line]) -> Result<BTreeMap<u64, u32>, Memory>
+    ensures { IfOk result (FindsHeads (map seen_line lines.now)) }
+{
+    let mut heads = BTreeMap::new(alloc);
+    for line in lines {
+        if let Some(id) = head_of(line) {
+            if !heads.contains_key(&rank(id)) {
+                heads.insert(rank(id), line.number)?;
+            }
+        }
+    }
+    Ok(heads)
+}
+
+impl<'a> KnownLines<'a> {
+    /// These lines. Cost: the number of lines times its logarithm, and their lengths.
+    pub fn of(alloc: Global, lines: Vec<Line<'a>>) -> Result<KnownLines<'a>, Memory>
+        ensures { IfOk result (λ known. known ≡ map seen_line lines.entry.items) }
+    {
+        let heads = gather_heads(alloc, &lines)?;
+        Ok(KnownLines { lines, heads })
+    }
+
+    /// The lines in their order.
+    pub fn lines(&self) -> &[Line<'a>]
+        ensures { map seen_line result.now ≡ self.now }
+    {
+        self.lines.as_slice()
+    }
+
+    /// The number of the first line whose first field is the ID. Cost: as the look-up of an ordered map.
+    pub fn head(&self, id: AnnId) -> Option<u32>
+        ensures { result ≡ option_map (λ line. line.number) (headed_by id self.now) }
+    {
+        self.heads.get(&rank(id)).copied()
+    }
+}

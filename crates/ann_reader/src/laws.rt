@@ -1,0 +1,18 @@
+//! Laws of .ann files. Each function does nothing; its contract is the law.
+ghost use Rattle.std.specs.Prelude.{◌≡◌, ℕ, List, None, IsUtf8};
+ghost use Rattle.annotation_conf.specs.Configurations.{Configuration};
+ghost use Rattle.layer_model.specs.Annotations.{Annotations};
+ghost use Rattle.layer_model.specs.Layers.{IsLayer};
+ghost use Rattle.ann_reader.specs.Lines.{lines_of};
+ghost use Rattle.ann_reader.specs.AnnFaults.{layer_of, lines_fault};
+ghost use Rattle.ann_reader.specs.AnnFiles.{IsAnn};
+
+/// Lines without a fault are an .ann file of the layer that they say.
+pub fn files_without_fault()
+    ensures { (conf : Configuration) (text bytes : List ℕ) → IsUtf8 bytes → lines_fault conf text (lines_of bytes) ≡ None → IsAnn conf text bytes (layer_of conf (lines_of bytes)) }
+{}
+
+/// A file has at most one layer.
+pub fn at_most_one_layer()
+    ensures { (conf : Configuration) (text bytes : List ℕ) (a b : Annotations) → IsLayer a → IsLayer b → IsAnn conf text bytes a → IsAnn conf text bytes b → a ≡ b }
+{}

@@ -1,0 +1,69 @@
+//! The layer that lines say.
+ghost use Rattle.std.specs.Prelude.{◌≡◌, ◌<◌, length, option_map, OnOk, IfSome};
+ghost use Rattle.ann_reader.specs.AnnFaults.{with_read, with_said, with_form};
+ghost use Rattle.ann_reader.specs.FormShows.{NamesSome, seen_form, seen_said};
+ghost use Rattle.layer_model.specs.Layers.{is_of_kind};
+
+use crate::form::Form;
+use crate::marks::{Said, mark_of, said_of};
+use crate::references::own_id;
+use annotation_conf::Conf;
+use layer_model::{Layer, Mark};
+use mark_base::{AnnId, Kind, Memory};
+use std::alloc::Global;
+
+/// Whether a mark is of the sort that stands under a letter.
+fn is_of_kind(kind: Kind, mark: &Mark) -> bool
+    ensures { result ≡ is_of_kind kind mark.now }
+{
+    match mark {
+        Mark::Span(_) => kind == Kind::Text,
+        Mark::Event(_) => kind == Kind::Event,
+        Mark::Relation(_) => kind == Kind::Relation,
+        Mark::Attribute(_) => matches!(kind, Kind::Attribute | Kind::Legacy),
+        Mark::Normal(_) => kind == Kind::Normal,
+        Mark::Note(_) => kind == Kind::Note,
+    }
+}
+
+/// Puts an annotation where it was read and its ID is free.
+fn put_read(layer: &mut Layer, id: Option<AnnId>, mark: Option<Mark>) -> Result<(), Memory>
+    ensures { OnOk result (layer.new ≡ with_read layer.old id mark) }
+{
+    let (Some(id), Some(mark)) = (id, mark) else {
+        return Ok(());
+    };
+    if layer.has(id) || !is_of_kind(id.kind, &mark) {
+        return Ok(());
+    }
+    layer.put(id, mark)
+}
+
+/// Joins a class that was said.
+fn join_said(layer: &mut Layer, said: Option<Said>) -> Result<(), Memory>
+    requires some { IfSome said (λ one. 0 < length one.members) }
+    requires few { length layer.old.classes < 4294967295 }
+    ensures { OnOk result (layer.new ≡ with_said layer.old (option_map seen_said said)) }
+{
+    match said {
+        None => Ok(()),
+        Some(said) => layer.join(said.kind, said.members),
+    }
+}
+
+/// Adds what a line says.
+pub(crate) fn add_line(
+    alloc: Global,
+    conf: &Conf,
+    layer: &mut Layer,
+    form: &Form,
+) -> Result<(), Memory>
+    requires few { length layer.old.classes < 4294967295 }
+    requires some { NamesSome (seen_form form.now) }
+    ensures { OnOk result (layer.new ≡ with_form conf.now layer.old (seen_form form.now)) }
+{
+    let mark = mark_of(alloc, conf, form)?;
+    put_read(layer, own_id(form), mark)?;
+    let said = said_of(alloc, conf, form)?;
+    join_said(layer, said)
+}

@@ -1,0 +1,28 @@
+//! Reading .ann files: the layer that a standoff file spells, or its first fault with its line.
+#![tactic(auto)]
+
+mod ann_fault;
+mod declared_names;
+mod form;
+mod known_lines;
+mod laws;
+mod layer_lines;
+mod letters;
+mod line;
+mod line_counts;
+mod line_fault;
+mod marks;
+mod reader;
+mod references;
+mod roles;
+mod text_rules;
+mod texts;
+mod word;
+mod worked_rows;
+
+pub use crate::ann_fault::{AnnFault, AnnWhat};
+pub use crate::laws::{at_most_one_layer, files_without_fault};
+pub use crate::letters::Letters;
+pub use crate::reader::read_ann;
+pub use crate::roles::role_read;
+pub use crate::worked_rows::examples_of_lines;

@@ -1,0 +1,339 @@
+//! What is at fault with a line, whatever the layer turns out to be.
+ghost use Rattle.std.specs.Prelude.{◌≡◌, IfOk, IfSome, is_none, is_some, length, map};
+ghost use Rattle.std.specs.List.{list_any};
+ghost use Rattle.mark_base.specs.Names.{name_fault};
+ghost use Rattle.annotation_conf.specs.Lookups.{values_of};
+ghost use Rattle.layer_core.specs.Fields.{value_refused};
+ghost use Rattle.layer_core.specs.PairRules.{counted_letter};
+ghost use Rattle.layer_core.specs.Rules.{is_barred_type};
+ghost use Rattle.std.specs.Option.{option_map_or};
+ghost use Rattle.std.specs.Prelude.{false};
+ghost use Rattle.ann_reader.specs.Roles.{role_read};
+ghost use Rattle.ann_reader.specs.References.{references};
+ghost use Rattle.ann_reader.specs.Forms.{form_of};
+ghost use Rattle.ann_reader.specs.LineFaults.{is_formless, is_twice, has_unknown_type, has_barred_type, first_absent, first_unfit, has_unknown_role, has_unknown_value, has_bad_text, one_too_many, naming_rule, value_rule, line_rule, is_bad_line, has_bad_id, line_fault};
+ghost use Rattle.ann_reader.specs.LineShows.{seen_line};
+ghost use Rattle.ann_reader.specs.FormShows.{seen_form, seen_pair, seen_reference, seen_value};
+
+use crate::AnnWhat;
+use crate::declared_names::{
+    Value, attribute_read, event_read, relation_read, type_read, value_read,
+};
+use crate::form::{Form, Pair};
+use crate::known_lines::KnownLines;
+use crate::line::Line;
+use crate::marks::ends_of;
+use crate::references::{
+    Reference, is_own_misspelt, may_stand, own_id, references, some_misspelt, some_without_letter,
+};
+use crate::roles::role_read;
+use crate::text_rules::{is_bad_entry, is_bad_store, is_bad_text};
+use crate::word::{first_byte, id_read, kind_read};
+use annotation_conf::Conf;
+use layer_model::Rule;
+use mark_base::{AttrId, Kind, Memory, Name, NameFault, TypeId};
+use std::alloc::Global;
+
+/// Whether a word is no name.
+fn is_no_name(word: &str) -> bool
+    ensures { result ≡ is_some (name_fault word.now) }
+{
+    Name::fault(word).is_some()
+}
+
+/// Whether the type is not in the table that the line needs.
+fn has_unknown_type(alloc: Global, conf: &Conf, form: &Form) -> Result<bool, Memory>
+    ensures { IfOk result (λ unknown. unknown ≡ has_unknown_type conf.now (seen_form form.now)) }
+{
+    match form {
+        Form::Bad | Form::Normal { .. } => Ok(false),
+        Form::Text { kind, .. } => Ok(type_read(alloc, conf, kind)?.is_none()),
+        Form::Event { kind, .. } => Ok(event_read(alloc, conf, kind)?.is_none()),
+        Form::Relation { kind, .. } => Ok(relation_read(alloc, conf, kind)?.is_none()),
+        Form::Attribute { kind, .. } => Ok(attribute_read(alloc, conf, kind)?.is_none()),
+        Form::Class { kind, .. } => Ok(relation_read(alloc, conf, kind)?.is_none()),
+        Form::Note { kind, .. } => Ok(is_no_name(kind)),
+    }
+}
+
+/// Whether annotations may not have a type.
+fn is_barred(conf: &Conf, kind: Option<TypeId>) -> bool
+    ensures { result ≡ option_map_or (is_barred_type conf.now) kind false }
+{
+    match kind {
+        Some(id) => match conf.types().row(id) {
+            Some(row) => !row.usable,
+            None => false,
+        },
+        None => false,
+    }
+}
+
+/// Whether the type only orders others, or is an equivalence in the place of a relation, or the other way
+/// round.
+fn has_barred_type(alloc: Global, conf: &Conf, form: &Form) -> Result<bool, Memory>
+    ensures { IfOk result (λ barred. barred ≡ has_barred_type conf.now (seen_form form.now)) }
+{
+    match form {
+        Form::Text { kind, .. } => Ok(is_barred(conf, type_read(alloc, conf, kind)?)),
+        Form::Event { kind, .. } => Ok(is_barred(conf, event_read(alloc, conf, kind)?)),
+        Form::Relation { kind, .. } => match relation_read(alloc, conf, kind)? {
+            Some(id) => Ok(conf.is_equivalence(id)),
+            None => Ok(false),
+        },
+        Form::Class { kind, .. } => match relation_read(alloc, conf, kind)? {
+            Some(id) => Ok(!conf.is_equivalence(id)),
+            None => Ok(false),
+        },
+        _ => Ok(false),
+    }
+}
+
+/// The first ID that is named and heads no line.
+fn first_absent(known: &KnownLines, named: &[Reference]) -> Option<Rule>
+    ensures { result ≡ first_absent known.now (map seen_reference named.now) }
+{
+    for reference in named {
+        if let Some(id) = id_read(reference.word.as_bytes()) {
+            if known.head(id).is_none() {
+                return Some(Rule::NoSuch(id));
+            }
+        }
+    }
+    None
+}
+
+/// The first ID whose letter may not stand in its place.
+fn first_unfit(named: &[Reference]) -> Option<Rule>
+    ensures { result ≡ first_unfit (map seen_reference named.now) }
+{
+    for reference in named {
+        if let Some(id) = id_read(reference.word.as_bytes()) {
+            if !may_stand(reference.letters, id.kind) {
+                return Some(Rule::WrongKind(id));
+            }
+        }
+    }
+    None
+}
+
+/// Whether some pair has a role that the event type does not have.
+fn some_unknown_role(conf: &Conf, kind: TypeId, pairs: &[Pair]) -> bool
+    ensures { result ≡ list_any (λ pair. is_none (role_read conf.now kind.n pair.role)) (map seen_pair pairs.now) }
+{
+    for pair in pairs {
+        if role_read(conf, kind, pair.role).is_none() {
+            return true;
+        }
+    }
+    false
+}
+
+/// Whether a role is not one that the type has, or the two of a relation are not its two.
+fn has_unknown_role(alloc: Global, conf: &Conf, form: &Form) -> Result<bool, Memory>
+    ensures { IfOk result (λ unknown. unknown ≡ has_unknown_role conf.now (seen_form form.now)) }
+{
+    match form {
+        Form::Event { kind, pairs, .. } => match event_read(alloc, conf, kind)? {
+            Some(id) => Ok(some_unknown_role(conf, id, pairs)),
+            None => Ok(false),
+        },
+        Form::Relation { kind, a, b, .. } => match relation_read(alloc, conf, kind)? {
+            Some(id) => Ok(ends_of(conf, id, a, b).is_none()),
+            None => Ok(false),
+        },
+        _ => Ok(false),
+    }
+}
+
+/// Whether a value is not declared, is given where none are, or is absent where some are.
+fn is_refused(conf: &Conf, kind: AttrId, value: Value) -> bool
+    ensures { result ≡ value_refused (length (values_of conf.now kind.n)) (seen_value value) }
+{
+    let count = conf.value_count(kind);
+    match value {
+        Value::Undeclared => true,
+        Value::Declared(None) => count > 0,
+        Value::Declared(Some(value)) => value >= count,
+    }
+}
+
+/// Whether the value of an attribute is not what its type wants.
+fn has_unknown_value(alloc: Global, conf: &Conf, form: &Form) -> Result<bool, Memory>
+    ensures { IfOk result (λ unknown. unknown ≡ has_unknown_value conf.now (seen_form form.now)) }
+{
+    match form {
+        Form::Attribute { kind, value, .. } => match attribute_read(alloc, conf, kind)? {
+            Some(id) => Ok(is_refused(conf, id, value_read(alloc, conf, id, *value)?)),
+            None => Ok(false),
+        },
+        _ => Ok(false),
+    }
+}
+
+/// Whether a text, a store or an entry may not stand.
+fn has_bad_text(form: &Form) -> bool
+    ensures { result ≡ has_bad_text (seen_form form.now) }
+{
+    match form {
+        Form::Normal {
+            store,
+            entry,
+            text,
+            ..
+        } => is_bad_text(text) || is_bad_store(store) || is_bad_entry(entry),
+        Form::Note { text, .. } => is_bad_text(text),
+        _ => false,
+    }
+}
+
+/// The letter as which a letter is counted.
+fn counted_letter(kind: Kind) -> Kind
+    ensures { result ≡ counted_letter kind }
+{
+    match kind {
+        Kind::Legacy => Kind::Attribute,
+        _ => kind,
+    }
+}
+
+/// The rule that is broken by a line of this byte, where so many before it are counted together with it.
+fn one_too_many(before: u32, byte: u8) -> Option<Rule>
+    ensures { result ≡ one_too_many before byte }
+{
+    if before < 10000 {
+        return None;
+    }
+    let kind = kind_read(byte)?;
+    Some(Rule::LayerFull(counted_letter(kind)))
+}
+
+/// The first of the rules of types and IDs that a line breaks.
+fn naming_rule(
+    alloc: Global,
+    conf: &Conf,
+    known: &KnownLines,
+    form: &Form,
+    named: &[Reference],
+) -> Result<Option<Rule>, Memory>
+    requires { map seen_reference named.now ≡ references (seen_form form.now) }
+    ensures { IfOk result (λ rule. rule ≡ naming_rule conf.now known.now (seen_form form.now)) }
+{
+    if has_unknown_type(alloc, conf, form)? {
+        return Ok(Some(Rule::UnknownType));
+    }
+    if has_barred_type(alloc, conf, form)? {
+        return Ok(Some(Rule::NotForUse));
+    }
+    if let Some(rule) = first_absent(known, named) {
+        return Ok(Some(rule));
+    }
+    Ok(first_unfit(named))
+}
+
+/// The first of the rules of roles, values, texts and counts that a line breaks.
+fn value_rule(
+    alloc: Global,
+    conf: &Conf,
+    before: u32,
+    line: &Line,
+    form: &Form,
+) -> Result<Option<Rule>, Memory>
+    ensures { IfOk result (λ rule. rule ≡ value_rule conf.now before (seen_line line.now) (seen_form form.now)) }
+{
+    if has_unknown_role(alloc, conf, form)? {
+        return Ok(Some(Rule::UnknownRole));
+    }
+    if has_unknown_value(alloc, conf, form)? {
+        return Ok(Some(Rule::UnknownValue));
+    }
+    if has_bad_text(form) {
+        return Ok(Some(Rule::BadText));
+    }
+    Ok(one_too_many(before, first_byte(line.text.as_bytes())))
+}
+
+/// Whether an earlier line has the ID of a line.
+fn is_twice(known: &KnownLines, line: &Line, form: &Form) -> bool
+    requires { seen_form form.now ≡ form_of line.now.text.now }
+    ensures { result ≡ is_twice known.now (seen_line line.now) }
+{
+    match own_id(form) {
+        Some(id) => match known.head(id) {
+            Some(first) => first < line.number,
+            None => false,
+        },
+        None => false,
+    }
+}
+
+/// Whether a line has no form.
+fn is_formless(form: &Form) -> bool
+    ensures { result ≡ is_formless (seen_form form.now) }
+{
+    matches!(form, Form::Bad)
+}
+
+/// Whether a line has no form, or a place of an ID in it begins with none of the letters.
+fn is_bad_line(form: &Form, named: &[Reference]) -> bool
+    requires { map seen_reference named.now ≡ references (seen_form form.now) }
+    ensures { result ≡ is_bad_line (seen_form form.now) }
+{
+    is_formless(form) || some_without_letter(named)
+}
+
+/// Whether an ID of a line is misspelt.
+fn has_bad_id(form: &Form, named: &[Reference]) -> bool
+    requires { map seen_reference named.now ≡ references (seen_form form.now) }
+    ensures { result ≡ has_bad_id (seen_form form.now) }
+{
+    is_own_misspelt(form) || some_misspelt(named)
+}
+
+/// The first rule that a line breaks.
+fn line_rule(
+    alloc: Global,
+    conf: &Conf,
+    known: &KnownLines,
+    before: u32,
+    line: &Line,
+    form: &Form,
+    named: &[Reference],
+) -> Result<Option<Rule>, Memory>
+    requires { map seen_reference named.now ≡ references (seen_form form.now) }
+    ensures { IfOk result (λ rule. rule ≡ line_rule conf.now known.now before (seen_line line.now) (seen_form form.now)) }
+{
+    match naming_rule(alloc, conf, known, form, named)? {
+        Some(rule) => Ok(Some(rule)),
+        None => value_rule(alloc, conf, before, line, form),
+    }
+}
+
+/// The first fault of a line among all, where so many before it are counted together with it. Cost: the line,
+/// and the number of its IDs times the logarithm of the number of lines.
+pub(crate) fn line_fault(
+    alloc: Global,
+    conf: &Conf,
+    known: &KnownLines,
+    before: u32,
+    line: &Line,
+    form: &Form,
+) -> Result<Option<AnnWhat>, Memory>
+    requires { seen_form form.now ≡ form_of line.now.text.now }
+    ensures { IfOk result (λ what. what ≡ line_fault conf.now known.now before (seen_line line.now)) }
+{
+    let named = references(alloc, form)?;
+    if is_bad_line(form, &named) {
+        return Ok(Some(AnnWhat::BadLine));
+    }
+    if has_bad_id(form, &named) {
+        return Ok(Some(AnnWhat::BadId));
+    }
+    if is_twice(known, line, form) {
+        return Ok(Some(AnnWhat::IdTwice));
+    }
+    match line_rule(alloc, conf, known, before, line, form, &named)? {
+        Some(rule) => Ok(Some(AnnWhat::Broken(rule))),
+        None => Ok(None),
+    }
+}

@@ -1,0 +1,54 @@
+//! The rules on texts, stores and entries.
+ghost use Rattle.std.specs.Prelude.{◌≡◌, ◌||◌, ◌==◌, chars, length};
+ghost use Rattle.std.specs.Char.{is_whitespace};
+ghost use Rattle.std.specs.List.{list_any};
+ghost use Rattle.layer_core.specs.SpanRules.{is_bad_entry, is_bad_store, is_bad_text};
+
+/// Whether some byte is a line feed or a carriage return.
+fn breaks_line(text: &[u8]) -> bool
+    ensures { result ≡ list_any (λ c. c == 10 || c == 13) text.now }
+{
+    text.iter().any(|byte| *byte == b'\n' || *byte == b'\r')
+}
+
+/// Whether some byte is a colon.
+fn has_colon(text: &[u8]) -> bool
+    ensures { result ≡ list_any (λ c. c == 58) text.now }
+{
+    text.iter().any(|byte| *byte == b':')
+}
+
+/// Whether some character is white space.
+fn has_whitespace(text: &str) -> bool
+    ensures { result ≡ list_any is_whitespace (chars text.now) }
+{
+    text.chars().any(|c| c.is_whitespace())
+}
+
+/// How many characters a text has.
+fn char_count(text: &str) -> usize
+    ensures { result ≡ length (chars text.now) }
+{
+    text.chars().count()
+}
+
+/// Whether a text of a note or a normalization may not stand.
+pub(crate) fn is_bad_text(text: &str) -> bool
+    ensures { result ≡ is_bad_text text.now }
+{
+    char_count(text) > 4000 || breaks_line(text.as_bytes())
+}
+
+/// Whether an entry of a store may not stand.
+pub(crate) fn is_bad_entry(entry: &str) -> bool
+    ensures { result ≡ is_bad_entry entry.now }
+{
+    entry.is_empty() || has_whitespace(entry)
+}
+
+/// Whether the name of a store may not stand.
+pub(crate) fn is_bad_store(store: &str) -> bool
+    ensures { result ≡ is_bad_store store.now }
+{
+    is_bad_entry(store) || has_colon(store.as_bytes())
+}
