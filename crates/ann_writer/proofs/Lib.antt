@@ -1,0 +1,15 @@
+pub mod ClassLines
+pub mod ConfWords
+pub mod CountLemmas
+pub mod FieldWords
+pub mod FileRows
+pub mod LineForms
+pub mod MarkLines
+pub mod MarkSteps
+pub mod NameFacts
+pub mod NumberWords
+pub mod PlainWords
+pub mod RoleWords
+pub mod RoundTrip
+pub mod ShownTexts
+pub mod WritableLemmas

@@ -1,0 +1,4 @@
+pub mod AnnOf
+pub mod RoleCounts
+pub mod Words
+pub mod Writable
