@@ -12,6 +12,8 @@
 #![tactic(auto)]
 
 mod figure;
+#[cfg(test)]
+mod layer_tests;
 mod report;
 #[cfg(test)]
 mod tests;
