@@ -1,3 +1,7 @@
+pub mod Asked
+pub mod Files
 pub mod Folder
 pub mod Run
-pub mod ConfTypes
+pub mod Troubles
+pub mod TryDesk
+pub mod Verify

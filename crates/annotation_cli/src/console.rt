@@ -50,7 +50,7 @@ impl<R: Read, W: Write> Source for Console<R, W> {
 
 /// Writes the first bytes of the piece and flushes them. 0 where nothing was taken, or where it was not
 /// flushed.
-fn write_flushed<W: Write>(writer: &mut W, piece: &[u8]) -> usize
+pub(crate) fn write_flushed<W: Write>(writer: &mut W, piece: &[u8]) -> usize
     ensures { result ≤ length piece.now }
 {
     match writer.write(piece) {

@@ -1,24 +1,31 @@
 //! The program: the words of a command, the files that they name, and the console.
 //!
 //! [`run`](run::run) is the top call. It is generic over what it reaches, a [`World`](world::World) of
-//! a folder and a console, so that its contract speaks of their bytes. [`main`] makes the real world
-//! and calls it.
+//! a folder, a console and a sink for complaints, so that its contract speaks of their bytes. [`main`]
+//! makes the real world and calls it.
 #![tactic(auto)]
 
-mod conf_types;
+mod asked;
+mod complaint;
+#[cfg(test)]
+mod conf_files;
 mod console;
+mod error_sink;
 mod examples;
 mod file_folder;
+mod files;
 mod folder;
 mod memory_folder;
-mod not_served;
-mod opening;
 mod run;
 #[cfg(test)]
 mod tests;
+mod trouble;
+mod try_desk;
+mod verify;
 mod world;
 
 use crate::console::Console;
+use crate::error_sink::ErrorSink;
 use crate::file_folder::FileFolder;
 use crate::run::run;
 use crate::world::World;
@@ -57,6 +64,7 @@ fn main(rt: HostRuntime) -> ExitCode {
     let mut world = World {
         folder,
         console: Console::new(rt.stdin(), rt.stdout()),
+        complaint: ErrorSink::new(rt.stderr()),
     };
     ExitCode::from(run(rt.alloc(), &words, &mut world))
 }

@@ -7,7 +7,7 @@ use crate::add_span::{AddSpan, read_add_span};
 use crate::ann_lines::ann_lines;
 use crate::answers::tell_made;
 use crate::span_list::SpanList;
-use char_documents::{Doc, DocFault};
+use char_documents::Doc;
 use http_wire::{Answer, Media, Message};
 use layer_model::Span;
 use mark_base::{Frag, FragList, Memory, Name, Text, TypeId};
@@ -66,22 +66,16 @@ fn find_type(types: &[Name], kind: &str) -> Option<usize>
 
 impl FirstDesk {
     /// A desk with nothing marked, on this text and for the types of these names.
-    pub fn new(alloc: Global, types: Vec<Name>, text: Text) -> Result<Self, Memory>
+    pub fn new(alloc: Global, types: Vec<Name>, text: Doc) -> Self
         requires few { vec_len types ≤ 63 }
-        requires short { length (chars text) ≤ 200000 }
-        ensures { IfOk result (λ desk. desk ≡ record { types = types.items; text = chars text; spans = [] }) }
+        ensures { result ≡ record { types = types.items; text = text; spans = [] } }
     {
-        let text = match Doc::new(alloc, text.text()) {
-            Ok(text) => text,
-            Err(DocFault::TooLong) => unreachable!(),
-            Err(DocFault::Memory) => return Err(Memory),
-        };
-        Ok(FirstDesk {
+        FirstDesk {
             alloc,
             types,
             text,
             spans: SpanList::new(alloc),
-        })
+        }
     }
 
     /// Adds a span of this type, after the tests of its fragment.

@@ -8,7 +8,7 @@
 //! yet is answered 501 `NotYet`. A refusal leaves the layer as it was and the connection open.
 //!
 //! ```text
-//! let mut desk = FirstDesk::new(alloc, types, text)?;
+//! let mut desk = FirstDesk::new(alloc, types, doc);
 //! let ending = serve_link(alloc, &mut desk, &mut link);
 //! ```
 #![tactic(auto)]

@@ -1,7 +1,7 @@
 //! Whole connections, by their bytes: each as one piece and in pieces of one byte.
 use crate::{Ending, FirstDesk, serve_link};
 use char_documents::Doc;
-use mark_base::{Bytes, MemoryLink, Name, Text};
+use mark_base::{Bytes, MemoryLink, Name};
 use std::alloc::Global;
 use std::process::Abort;
 use std::test::Fail;
@@ -102,10 +102,8 @@ const CASES: [Case; 12] = [
 
 /// A desk on a text, for the one type `Person`.
 fn desk(alloc: Global, text: &str) -> Result<FirstDesk, Fail> {
-    let text = Text::of(alloc, text)?;
-    // Its count of characters is known from here on.
-    let _document = Doc::new(alloc, text.text())?;
-    Ok(FirstDesk::new(alloc, vec![in alloc; Name::new(alloc, "Person")?]?, text)?)
+    let types = vec![in alloc; Name::new(alloc, "Person")?]?;
+    Ok(FirstDesk::new(alloc, types, Doc::new(alloc, text)?))
 }
 
 #[test]

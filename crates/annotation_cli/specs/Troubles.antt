@@ -1,0 +1,140 @@
+-- Why a run does not do its job: the line that says so on the complaint sink, and the status.
+use Rattle.std.specs.Prelude.{◌≡◌, ℕ, ◌⊎◌, Bool, List, [], ◌++◌, Option, Some, None, codes, decimal, if◌then◌else◌, Result, Ok, Err}
+use Rattle.std.specs.Option.{option_map_or}
+use Rattle.std.specs.Io.KnownBytes.{Appends}
+use Rattle.mark_base.specs.Streams.{AppendsFront, Rose}
+use Rattle.annotation_conf.specs.declared.conf_fault.ConfWhat.{ConfWhat}
+use Rattle.annotation_conf.specs.declared.conf_fault.ConfWhat.TheVariants as conf
+use Rattle.ann_reader.specs.declared.ann_fault.AnnWhat.{AnnWhat}
+use Rattle.ann_reader.specs.declared.ann_fault.AnnWhat.TheVariants as ann
+use Rattle.layer_model.specs.declared.rule.Rule.{Rule}
+use Rattle.layer_model.specs.declared.rule.Rule.TheVariants as rule
+use Rattle.annotation_cli.specs.declared.trouble.Trouble.{Trouble}
+use Rattle.annotation_cli.specs.declared.trouble.Trouble.TheVariants.{Usage, Conf, ConfNotYet, Ann, TextNotUtf8, TextTooLong, FileAbsent, FileTooLong, FileFailed, Cut, BadHead, NeedsLength, TooLarge, Encoded, Spent, ReadFault, WriteFault, Memory}
+
+-- the name of a fault of a configuration
+abbrev pub conf_name : ConfWhat → List ℕ
+conf_name conf.NotUtf8 = codes "NotUtf8"
+conf_name conf.UnknownSection = codes "UnknownSection"
+conf_name conf.SectionTwice = codes "SectionTwice"
+conf_name conf.SectionMissing = codes "SectionMissing"
+conf_name conf.OutsideSection = codes "OutsideSection"
+conf_name conf.BadIndent = codes "BadIndent"
+conf_name conf.BadName = codes "BadName"
+conf_name conf.NameTwice = codes "NameTwice"
+conf_name conf.BadCount = codes "BadCount"
+conf_name conf.BadArgument = codes "BadArgument"
+conf_name conf.UnknownTypeNamed = codes "UnknownTypeNamed"
+conf_name conf.UnknownMacro = codes "UnknownMacro"
+conf_name conf.TooManyTypes = codes "TooManyTypes"
+
+-- the name of a rule, without what it carries
+abbrev pub rule_name : Rule → List ℕ
+rule_name rule.UnknownType = codes "UnknownType"
+rule_name rule.NotForUse = codes "NotForUse"
+rule_name rule.BadFragments = codes "BadFragments"
+rule_name rule.OutOfText = codes "OutOfText"
+rule_name rule.SpanTooLong = codes "SpanTooLong"
+rule_name (rule.NoSuch id) = codes "NoSuch"
+rule_name (rule.WrongKind id) = codes "WrongKind"
+rule_name rule.UnknownRole = codes "UnknownRole"
+rule_name (rule.ArgumentType role) = codes "ArgumentType"
+rule_name (rule.TooMany role) = codes "TooMany"
+rule_name rule.NoSuchArgument = codes "NoSuchArgument"
+rule_name rule.UnknownValue = codes "UnknownValue"
+rule_name rule.TooDeep = codes "TooDeep"
+rule_name (rule.SameSpan id) = codes "SameSpan"
+rule_name (rule.SameEvent id) = codes "SameEvent"
+rule_name (rule.SameRelation id) = codes "SameRelation"
+rule_name (rule.AttributeThere id) = codes "AttributeThere"
+rule_name rule.EquivMembers = codes "EquivMembers"
+rule_name (rule.OverlapRefused id) = codes "OverlapRefused"
+rule_name (rule.InUse id) = codes "InUse"
+rule_name rule.BadText = codes "BadText"
+rule_name (rule.LayerFull kind) = codes "LayerFull"
+rule_name (rule.IdsUsedUp kind) = codes "IdsUsedUp"
+rule_name (rule.TooFew event role) = codes "TooFew"
+rule_name rule.DeskFull = codes "DeskFull"
+rule_name rule.NothingToUndo = codes "NothingToUndo"
+rule_name rule.NothingToRedo = codes "NothingToRedo"
+
+-- what is said of a fault of an .ann file: its name, and the place or the rule that it carries
+abbrev pub ann_name : AnnWhat → List ℕ
+ann_name ann.NotUtf8 = codes "NotUtf8"
+ann_name ann.BadLine = codes "BadLine"
+ann_name ann.BadId = codes "BadId"
+ann_name ann.IdTwice = codes "IdTwice"
+ann_name (ann.WrongText place) = codes "WrongText " ++ decimal place
+ann_name (ann.Broken broken) = codes "Broken " ++ rule_name broken
+
+-- the line of a fault of a file, as `conf line 3: NameTwice`
+abbrev pub at_line : List ℕ → ℕ → List ℕ → List ℕ
+at_line file line name = file ++ (codes " line " ++ (decimal line ++ (codes ": " ++ (name ++ codes "\n"))))
+
+-- the line of a trouble that names no line of a file
+abbrev pub fixed_line : Trouble → Option (List ℕ)
+fixed_line Usage = Some (codes "usage\n")
+fixed_line (Conf line what) = None
+fixed_line ConfNotYet = Some (codes "conf: NotYet\n")
+fixed_line (Ann line what) = None
+fixed_line TextNotUtf8 = Some (codes "text: NotUtf8\n")
+fixed_line TextTooLong = Some (codes "text: TooLong\n")
+fixed_line FileAbsent = Some (codes "file: Absent\n")
+fixed_line FileTooLong = Some (codes "file: TooLong\n")
+fixed_line FileFailed = Some (codes "file: Failed\n")
+fixed_line Cut = Some (codes "input: Cut\n")
+fixed_line BadHead = Some (codes "input: BadHead\n")
+fixed_line NeedsLength = Some (codes "input: NeedsLength\n")
+fixed_line TooLarge = Some (codes "input: TooLarge\n")
+fixed_line Encoded = Some (codes "input: Encoded\n")
+fixed_line Spent = Some (codes "input: Spent\n")
+fixed_line ReadFault = Some (codes "input: ReadFault\n")
+fixed_line WriteFault = Some (codes "output: WriteFault\n")
+fixed_line Memory = Some (codes "memory\n")
+
+-- the line of a trouble that names a line of a file
+abbrev pub numbered_line : Trouble → List ℕ
+numbered_line (Conf line what) = at_line (codes "conf") line (conf_name what)
+numbered_line (Ann line what) = at_line (codes "ann") line (ann_name what)
+numbered_line trouble = []
+
+-- the line that says a trouble
+abbrev pub line_of : Trouble → List ℕ
+line_of trouble = option_map_or (λ line. line) (fixed_line trouble) (numbered_line trouble)
+
+-- the status of a run that ends so; the command `verify` has one of its own for the faults that it looks for
+abbrev pub status_of : Bool → Trouble → ℕ
+status_of verifies Usage = 2
+status_of verifies (Conf line what) = if verifies then 1 else 3
+status_of verifies ConfNotYet = 3
+status_of verifies (Ann line what) = if verifies then 1 else 3
+status_of verifies TextNotUtf8 = 3
+status_of verifies TextTooLong = 3
+status_of verifies FileAbsent = 3
+status_of verifies FileTooLong = 3
+status_of verifies FileFailed = 4
+status_of verifies Cut = 3
+status_of verifies BadHead = 3
+status_of verifies NeedsLength = 3
+status_of verifies TooLarge = 3
+status_of verifies Encoded = 3
+status_of verifies Spent = 3
+status_of verifies ReadFault = 5
+status_of verifies WriteFault = 6
+status_of verifies Memory = 7
+
+-- the line of a trouble was written whole, with its status, or a front of it, with the status 6 and a counted fault of the write
+abbrev pub Says : Bool → Trouble → Option (List ℕ) → Option (List ℕ) → ℕ → ℕ → ℕ → Type 0
+Says verifies trouble old new before now status =
+    (Appends old new (line_of trouble) × (status ≡ status_of verifies trouble))
+    ⊎ (AppendsFront old new (line_of trouble) × (status ≡ 6) × Rose before now)
+
+-- a trouble was said; its line may want memory, and then that is said
+abbrev pub Complains : Bool → Trouble → Option (List ℕ) → Option (List ℕ) → ℕ → ℕ → ℕ → Type 0
+Complains verifies trouble old new before now status =
+    Says verifies trouble old new before now status ⊎ Says verifies Memory old new before now status
+
+-- a run that has done its job says nothing
+abbrev pub Ends : Bool → Result (Unit {0}) Trouble → Option (List ℕ) → Option (List ℕ) → ℕ → ℕ → ℕ → Type 0
+Ends verifies (Ok done) old new before now status = (new ≡ old) × (status ≡ 0)
+Ends verifies (Err trouble) old new before now status = Complains verifies trouble old new before now status

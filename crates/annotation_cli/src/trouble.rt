@@ -1,0 +1,188 @@
+//! Why a run does not do its job, and the line and the status that say so.
+ghost use Rattle.std.specs.Prelude.{◌≡◌, ◌++◌, IfOk, codes, decimal, option_map, string_bytes};
+ghost use Rattle.annotation_cli.specs.Troubles.{ann_name, at_line, conf_name, fixed_line, numbered_line, rule_name, status_of};
+
+use ann_reader::AnnWhat;
+use annotation_conf::ConfWhat;
+use layer_model::Rule;
+use mark_base::Memory;
+use std::alloc::Global;
+
+/// Why a run does not do its job.
+#[derive(Clone, Copy, Debug)]
+pub enum Trouble {
+    /// The words are no command.
+    Usage,
+    /// The first fault of a configuration, on a line that is counted from 1.
+    Conf { line: u32, what: ConfWhat },
+    /// A configuration that `try` does not serve yet.
+    ConfNotYet,
+    /// The first fault of an .ann file, on a line that is counted from 1.
+    Ann { line: u32, what: AnnWhat },
+    /// A text that is not UTF-8.
+    TextNotUtf8,
+    /// A text of more than 200,000 characters.
+    TextTooLong,
+    /// There is no file of a name.
+    FileAbsent,
+    /// A file is longer than what is read from such a file.
+    FileTooLong,
+    /// A fault of the folder, which it counted.
+    FileFailed,
+    /// The input ended inside a message.
+    Cut,
+    /// The bytes can become no head of a message.
+    BadHead,
+    /// PUT without Content-Length.
+    NeedsLength,
+    /// A head or a body that is too large.
+    TooLarge,
+    /// A field Transfer-Encoding.
+    Encoded,
+    /// The 1,000,000th answer was written.
+    Spent,
+    /// A read of the console failed, which it counted.
+    ReadFault,
+    /// A write of the console failed, which it counted.
+    WriteFault,
+    /// Want of memory.
+    Memory,
+}
+
+/// The name of a fault of a configuration.
+fn conf_name(what: ConfWhat) -> &'static str
+    ensures { result.now ≡ conf_name what }
+{
+    match what {
+        ConfWhat::NotUtf8 => "NotUtf8",
+        ConfWhat::UnknownSection => "UnknownSection",
+        ConfWhat::SectionTwice => "SectionTwice",
+        ConfWhat::SectionMissing => "SectionMissing",
+        ConfWhat::OutsideSection => "OutsideSection",
+        ConfWhat::BadIndent => "BadIndent",
+        ConfWhat::BadName => "BadName",
+        ConfWhat::NameTwice => "NameTwice",
+        ConfWhat::BadCount => "BadCount",
+        ConfWhat::BadArgument => "BadArgument",
+        ConfWhat::UnknownTypeNamed => "UnknownTypeNamed",
+        ConfWhat::UnknownMacro => "UnknownMacro",
+        ConfWhat::TooManyTypes => "TooManyTypes",
+    }
+}
+
+/// The name of a rule, without what it carries.
+fn rule_name(rule: Rule) -> &'static str
+    ensures { result.now ≡ rule_name rule }
+{
+    match rule {
+        Rule::UnknownType => "UnknownType",
+        Rule::NotForUse => "NotForUse",
+        Rule::BadFragments => "BadFragments",
+        Rule::OutOfText => "OutOfText",
+        Rule::SpanTooLong => "SpanTooLong",
+        Rule::NoSuch(_) => "NoSuch",
+        Rule::WrongKind(_) => "WrongKind",
+        Rule::UnknownRole => "UnknownRole",
+        Rule::ArgumentType(_) => "ArgumentType",
+        Rule::TooMany(_) => "TooMany",
+        Rule::NoSuchArgument => "NoSuchArgument",
+        Rule::UnknownValue => "UnknownValue",
+        Rule::TooDeep => "TooDeep",
+        Rule::SameSpan(_) => "SameSpan",
+        Rule::SameEvent(_) => "SameEvent",
+        Rule::SameRelation(_) => "SameRelation",
+        Rule::AttributeThere(_) => "AttributeThere",
+        Rule::EquivMembers => "EquivMembers",
+        Rule::OverlapRefused(_) => "OverlapRefused",
+        Rule::InUse(_) => "InUse",
+        Rule::BadText => "BadText",
+        Rule::LayerFull(_) => "LayerFull",
+        Rule::IdsUsedUp(_) => "IdsUsedUp",
+        Rule::TooFew(_, _) => "TooFew",
+        Rule::DeskFull => "DeskFull",
+        Rule::NothingToUndo => "NothingToUndo",
+        Rule::NothingToRedo => "NothingToRedo",
+    }
+}
+
+/// What is said of a fault of an .ann file: its name, and the place or the rule that it carries.
+fn ann_name(alloc: Global, what: AnnWhat) -> Result<String, Memory>
+    ensures { IfOk result (λ name. string_bytes name ≡ ann_name what) }
+{
+    Ok(match what {
+        AnnWhat::NotUtf8 => String::from_str(alloc, "NotUtf8")?,
+        AnnWhat::BadLine => String::from_str(alloc, "BadLine")?,
+        AnnWhat::BadId => String::from_str(alloc, "BadId")?,
+        AnnWhat::IdTwice => String::from_str(alloc, "IdTwice")?,
+        AnnWhat::WrongText(place) => format!(in alloc; "WrongText {place}")?,
+        AnnWhat::Broken(rule) => {
+            let name = rule_name(rule);
+            format!(in alloc; "Broken {name}")?
+        }
+    })
+}
+
+/// The line of a fault of a file.
+fn at_line(alloc: Global, file: &str, line: u32, name: &str) -> Result<String, Memory>
+    ensures { IfOk result (λ text. string_bytes text ≡ at_line file.now line name.now) }
+{
+    Ok(format!(in alloc; "{file} line {line}: {name}\n")?)
+}
+
+impl Trouble {
+    /// The status of a run that ends so; a fault of the configuration or the .ann file has a status of
+    /// its own where the command is the one that looks for such faults.
+    pub(crate) fn status(self, verifies: bool) -> u8
+        ensures { result ≡ status_of verifies self }
+    {
+        match self {
+            Trouble::Conf { .. } | Trouble::Ann { .. } => { if verifies { 1 } else { 3 } }
+            Trouble::Usage => 2,
+            Trouble::FileFailed => 4,
+            Trouble::ReadFault => 5,
+            Trouble::WriteFault => 6,
+            Trouble::Memory => 7,
+            _ => 3,
+        }
+    }
+
+    /// The line that says it, where it names no line of a file.
+    pub(crate) fn fixed_line(self) -> Option<&'static str>
+        ensures { option_map (λ line. line.now) result ≡ fixed_line self }
+    {
+        match self {
+            Trouble::Usage => Some("usage\n"),
+            Trouble::Conf { .. } => None,
+            Trouble::ConfNotYet => Some("conf: NotYet\n"),
+            Trouble::Ann { .. } => None,
+            Trouble::TextNotUtf8 => Some("text: NotUtf8\n"),
+            Trouble::TextTooLong => Some("text: TooLong\n"),
+            Trouble::FileAbsent => Some("file: Absent\n"),
+            Trouble::FileTooLong => Some("file: TooLong\n"),
+            Trouble::FileFailed => Some("file: Failed\n"),
+            Trouble::Cut => Some("input: Cut\n"),
+            Trouble::BadHead => Some("input: BadHead\n"),
+            Trouble::NeedsLength => Some("input: NeedsLength\n"),
+            Trouble::TooLarge => Some("input: TooLarge\n"),
+            Trouble::Encoded => Some("input: Encoded\n"),
+            Trouble::Spent => Some("input: Spent\n"),
+            Trouble::ReadFault => Some("input: ReadFault\n"),
+            Trouble::WriteFault => Some("output: WriteFault\n"),
+            Trouble::Memory => Some("memory\n"),
+        }
+    }
+
+    /// The line that says it, where it names a line of a file, and else nothing.
+    pub(crate) fn numbered_line(self, alloc: Global) -> Result<String, Memory>
+        ensures { IfOk result (λ text. string_bytes text ≡ numbered_line self) }
+    {
+        match self {
+            Trouble::Conf { line, what } => at_line(alloc, "conf", line, conf_name(what)),
+            Trouble::Ann { line, what } => {
+                let name = ann_name(alloc, what)?;
+                at_line(alloc, "ann", line, &name)
+            }
+            _ => Ok(String::new(alloc)),
+        }
+    }
+}
