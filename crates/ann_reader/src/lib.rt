@@ -15,6 +15,8 @@ mod marks;
 mod reader;
 mod references;
 mod roles;
+#[cfg(test)]
+mod tests;
 mod text_rules;
 mod texts;
 mod word;
