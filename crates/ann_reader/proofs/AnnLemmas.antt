@@ -1,27 +1,25 @@
 -- Lines without a fault are an .ann file of the layer that they say.
-use Rattle.std.proofs.Common.{◌≡◌, ℕ, ◌+◌, ◌<◌, ◌≤◌, ◌⊎◌, inl, inr, Bool, true, false, ◌||◌, List, [], ◌∷◌, ◌++◌, refl, sym, ◌∙◌, ap, subst, Option, Some, None, cond, is_some, nat_lt, slice_index, length, map, chars, arith}
+use Rattle.std.proofs.Common.{◌≡◌, ℕ, ◌+◌, ◌<◌, ◌≤◌, inl, inr, Bool, true, false, List, [], ◌∷◌, ◌++◌, refl, sym, ◌∙◌, ap, subst, Option, Some, None, cond, nat_lt, slice_index, arith}
 use Rattle.std.specs.Prelude.{IsSome, ⊤}
-use Rattle.std.specs.Option.{option_map_or, option_or, option_map}
-use Rattle.std.specs.List.{fold, find, list_any, slice_split, AllByRecursion}
-use Rattle.std.proofs.lemmas.Bool.{or_cases, or_parts, and_parts, and_from, false≢true, lt-ltb, le-leb, ltb-true, ltb-false, leb-true, cases_Bool, not-false}
+use Rattle.std.specs.Option.{option_map_or, option_map}
+use Rattle.std.specs.List.{fold, find, list_any, AllByRecursion}
+use Rattle.std.proofs.lemmas.Bool.{or_cases, or_parts, false≢true, lt-ltb, cases_Bool}
 use Rattle.std.proofs.lemmas.List.{append_assoc}
 use Rattle.std.proofs.lemmas.List.Sums.{fold-append}
 use Rattle.mark_base.specs.declared.ann_id.AnnId.{AnnId}
 use Rattle.annotation_conf.specs.Configurations.{Configuration}
-use Rattle.layer_model.specs.declared.mark.Mark.{Mark}
 use Rattle.layer_model.specs.Annotations.{Annotations, no_marks}
 use Rattle.layer_model.specs.Layers.{has, mark_at}
 use Rattle.layer_core.specs.PairRules.{is_id}
-use Rattle.ann_reader.specs.Lines.{Line, is_blank, lines_from, lines_of}
-use Rattle.ann_reader.specs.Words.{id_read}
+use Rattle.ann_reader.specs.Lines.{Line, is_blank, lines_from}
 use Rattle.ann_reader.specs.Forms.{Form, BadForm, TextForm, EventForm, RelationForm, AttributeForm, ClassForm, NormalForm, NoteForm, form_of}
 use Rattle.ann_reader.specs.References.{references, own_word, own_id, is_own_misspelt, is_misspelt}
-use Rattle.ann_reader.specs.Marks.{mark_of, said_of}
-use Rattle.ann_reader.specs.LineFaults.{is_bad_line, is_headed, headed_by, is_twice, line_fault, first_line_fault, count_like}
+use Rattle.ann_reader.specs.Marks.{said_of}
+use Rattle.ann_reader.specs.LineFaults.{is_headed, headed_by, is_twice, line_fault, first_line_fault, count_like}
 use Rattle.ann_reader.specs.AnnFaults.{with_line, layer_of}
 use Rattle.ann_reader.specs.AnnFiles.{HasMark, is_line_of}
 use Rattle.ann_reader.proofs.SaidLemmas.{line_puts, lines_keep, lines_came, none_there}
-use Rattle.ann_reader.proofs.CleanLemmas.{Found, Clean, clean, own_found, marked, said_found, later_none, unmapped, not_some, unsome}
+use Rattle.ann_reader.proofs.CleanLemmas.{Found, Clean, clean, own_found, marked, said_found, later_none, unmapped}
 use Rattle.ann_reader.proofs.FormFacts.{own_first, sorts_fit}
 
 -- ---- the numbers of lines rise

@@ -1,5 +1,5 @@
 -- What the reader answers of a file, and how many lines it has.
-use Rattle.std.proofs.Common.{◌≡◌, ℕ, ◌+◌, ◌<◌, ◌≤◌, ◌==◌, Bool, true, false, cond, List, [], ◌∷◌, Option, Some, None, Result, Ok, Err, IfOk, IfErr, OnOk, length, take, nat_lt, count_by, IsUtf8, refl, sym, ◌∙◌, ap, subst, arith}
+use Rattle.std.proofs.Common.{◌≡◌, ℕ, ◌+◌, ◌<◌, ◌≤◌, ◌==◌, true, false, cond, List, [], ◌∷◌, Option, Some, None, Result, Ok, Err, IfOk, IfErr, OnOk, length, take, nat_lt, count_by, IsUtf8, sym, ◌∙◌, ap, subst, arith}
 use Rattle.std.specs.List.{slice_split}
 use Rattle.std.specs.Option.{option_or}
 use Rattle.std.specs.Str.Lossy.{utf8_valid_len}
@@ -10,8 +10,7 @@ use Rattle.std.proofs.lemmas.List.Sums.{count_by-le-length}
 use Rattle.annotation_conf.specs.Configurations.{Configuration}
 use Rattle.layer_model.specs.Annotations.{Annotations}
 use Rattle.ann_reader.specs.declared.ann_fault.AnnFault.{AnnFault}
-use Rattle.ann_reader.specs.declared.ann_fault.AnnFault.TheVariants.{At, Memory}
-use Rattle.ann_reader.specs.declared.ann_fault.AnnWhat.{AnnWhat}
+use Rattle.ann_reader.specs.declared.ann_fault.AnnFault.TheVariants.{At}
 use Rattle.ann_reader.specs.declared.ann_fault.AnnWhat.TheVariants.{NotUtf8}
 use Rattle.ann_reader.specs.Lines.{Line, is_blank, lines_from, lines_of}
 use Rattle.ann_reader.specs.declared.reader.Fault.{Fault as FaultValue}

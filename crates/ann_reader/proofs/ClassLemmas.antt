@@ -1,5 +1,5 @@
 -- How many classes a line may bring, and that what it says of a class has members.
-use Rattle.std.proofs.Common.{◌≡◌, ℕ, ◌+◌, ◌<◌, ◌≤◌, Bool, true, false, not, cond, List, [], ◌∷◌, length, map, refl, sym, ◌∙◌, ap, subst, Option, Some, None, arith}
+use Rattle.std.proofs.Common.{◌≡◌, ℕ, ◌+◌, ◌<◌, ◌≤◌, Bool, true, false, not, cond, List, [], ◌∷◌, length, map, refl, sym, ap, subst, Option, Some, None, arith}
 use Rattle.std.specs.Prelude.{IfSome}
 use Rattle.std.specs.Option.{option_map, option_and_then}
 use Rattle.std.specs.List.{filter}
@@ -7,7 +7,7 @@ use Rattle.mark_base.specs.declared.ann_id.AnnId.{AnnId}
 use Rattle.annotation_conf.specs.Configurations.{Configuration}
 use Rattle.layer_model.specs.declared.class.Class.{Class}
 use Rattle.layer_model.specs.Annotations.{Annotations}
-use Rattle.layer_model.specs.Classes.{apart, comes_before, insert_class, joined, joined_class, shares}
+use Rattle.layer_model.specs.Classes.{apart, comes_before, insert_class, joined_class, shares}
 use Rattle.ann_reader.specs.declared.marks.Said.{Said as SaidValue}
 use Rattle.ann_reader.specs.NamesRead.{relation_read}
 use Rattle.ann_reader.specs.Words.{all_of, id_read}

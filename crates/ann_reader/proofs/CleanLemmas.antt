@@ -1,21 +1,19 @@
 -- A line without a fault spells an annotation or says something of a class.
-use Rattle.std.proofs.Common.{◌≡◌, ℕ, ◌⊎◌, inl, inr, Bool, true, false, not, ◌||◌, ◌&&◌, List, [], ◌∷◌, refl, sym, ◌∙◌, ap, subst, Option, Some, None, cond, is_some, map, length, slice_index}
+use Rattle.std.proofs.Common.{◌≡◌, ℕ, Bool, true, false, not, ◌&&◌, List, [], ◌∷◌, refl, sym, ◌∙◌, ap, subst, Option, Some, None, cond, map, length}
 use Rattle.std.specs.Option.{is_none, option_map_or, option_or, option_and_then, option_map}
 use Rattle.std.specs.List.{list_any}
-use Rattle.std.proofs.lemmas.Bool.{or_parts, false≢true}
+use Rattle.std.proofs.lemmas.Bool.{or_parts}
 use Rattle.mark_base.specs.declared.ann_id.AnnId.{AnnId}
 use Rattle.mark_base.specs.declared.places.TypeId.{TypeId}
 use Rattle.mark_base.specs.declared.arguments.Arg.{Arg}
-use Rattle.mark_base.specs.Names.{name_fault}
 use Rattle.annotation_conf.specs.Configurations.{Configuration}
 use Rattle.annotation_conf.specs.Lookups.{values_of}
 use Rattle.layer_model.specs.declared.mark.Mark.{Mark}
 use Rattle.layer_model.specs.declared.mark.Mark.TheVariants as sort
 use Rattle.layer_model.specs.declared.rule.Rule.{Rule}
-use Rattle.layer_model.specs.declared.rule.Rule.TheVariants.{UnknownType, NotForUse, UnknownRole, UnknownValue, BadText}
+use Rattle.layer_model.specs.declared.rule.Rule.TheVariants.{UnknownType, UnknownRole, UnknownValue}
 use Rattle.layer_core.specs.Fields.{Valued, Undeclared, Declared, value_refused}
 use Rattle.layer_core.specs.Rules.{where_so}
-use Rattle.ann_reader.specs.declared.ann_fault.AnnWhat.{AnnWhat}
 use Rattle.ann_reader.specs.declared.ann_fault.AnnWhat.TheVariants.{BadLine, BadId, IdTwice, Broken}
 use Rattle.ann_reader.specs.Roles.{role_read}
 use Rattle.ann_reader.specs.Lines.{Line}
@@ -23,7 +21,7 @@ use Rattle.ann_reader.specs.Words.{id_read, all_of}
 use Rattle.ann_reader.specs.NamesRead.{type_read, event_read, relation_read, attribute_read, value_read}
 use Rattle.ann_reader.specs.Forms.{Pair, Form, BadForm, TextForm, EventForm, RelationForm, AttributeForm, ClassForm, NormalForm, NoteForm, form_of}
 use Rattle.ann_reader.specs.References.{references, of_letters, own_word, own_id, is_own_misspelt, is_misspelt}
-use Rattle.ann_reader.specs.Marks.{arg_of, args_of, arg_by, Ends, ends_of, is_role, span_by, event_by, relation_by, attribute_by, normal_by, mark_of, Said, said_of, said_by}
+use Rattle.ann_reader.specs.Marks.{arg_of, args_of, arg_by, Ends, ends_of, is_role, span_by, event_by, relation_by, attribute_by, normal_by, mark_of, said_of, said_by}
 use Rattle.ann_reader.specs.LineFaults.{is_bad_line, has_bad_id, is_twice, has_unknown_type, has_unknown_role, has_unknown_value, line_rule, line_fault, naming_rule, value_rule}
 use Rattle.ann_reader.specs.declared.letters.Letters.TheVariants.{Spans, SpansOrEvents}
 

@@ -1,7 +1,7 @@
 -- A file without a fault is an .ann file of the layer that its lines say, and a file has at most one layer.
-use Rattle.std.proofs.Common.{◌≡◌, ℕ, ◌==◌, Bool, true, false, List, [], ◌∷◌, refl, sym, ◌∙◌, ap, subst, Option, Some, None, cond, length, slice_index, ◌⊎◌, inl, inr}
-use Rattle.std.specs.Prelude.{IsUtf8, IsSome}
-use Rattle.std.specs.Option.{option_map_or, option_or, option_map}
+use Rattle.std.proofs.Common.{◌≡◌, ℕ, ◌==◌, true, false, List, [], ◌∷◌, refl, None, length, inl, inr}
+use Rattle.std.specs.Prelude.{IsUtf8}
+use Rattle.std.specs.Option.{option_or}
 use Rattle.std.specs.List.{list_any, slice_split, AllByRecursion}
 use Rattle.annotation_conf.specs.Configurations.{Configuration}
 use Rattle.layer_model.specs.Annotations.{Annotations, no_marks}
@@ -12,7 +12,7 @@ use Rattle.mark_base.specs.declared.ann_id.AnnId.{AnnId}
 use Rattle.ann_reader.specs.Lines.{Line, lines_of}
 use Rattle.ann_reader.specs.Forms.{Form, BadForm, TextForm, EventForm, RelationForm, AttributeForm, ClassForm, NormalForm, NoteForm, form_of}
 use Rattle.ann_reader.specs.LineFaults.{is_twice, first_line_fault}
-use Rattle.ann_reader.specs.AnnFaults.{layer_of, layer_fault, flaw_fault, first_text_fault, text_fault, text_differs, lines_fault}
+use Rattle.ann_reader.specs.AnnFaults.{layer_of, layer_fault, first_text_fault, text_fault, text_differs, lines_fault}
 use Rattle.ann_reader.specs.AnnFiles.{IsAnn, Spells, is_line_of}
 use Rattle.ann_reader.proofs.CleanLemmas.{later_none, unmapped}
 use Rattle.ann_reader.proofs.SaidLemmas.{lines_came, lines_classes, none_there}

@@ -1,8 +1,8 @@
 -- What the form of a line says of its first field.
-use Rattle.std.proofs.Common.{◌≡◌, ℕ, ◌+◌, ◌<◌, ◌⊎◌, inl, inr, suc, Bool, true, false, not, ◌||◌, ◌&&◌, ◌==◌, List, [], ◌∷◌, refl, sym, ◌∙◌, ap, subst, Option, Some, None, cond, is_some, map, length, slice_index, take, drop, arith}
+use Rattle.std.proofs.Common.{◌≡◌, ℕ, ◌+◌, ◌<◌, ◌⊎◌, inl, inr, suc, Bool, true, false, not, ◌||◌, ◌&&◌, ◌==◌, List, [], ◌∷◌, refl, sym, ◌∙◌, ap, subst, Option, Some, None, cond, length, slice_index, take, drop, arith}
 use Rattle.std.specs.Prelude.{bytes_eq, codes, ⊤}
 use Rattle.std.specs.Option.{is_none, option_map_or, option_and_then, option_map}
-use Rattle.std.specs.List.{prefix_len, before_first}
+use Rattle.std.specs.List.{prefix_len}
 use Rattle.std.proofs.lemmas.Bool.{eqb-true, or_cases, or_from, false≢true}
 use Rattle.mark_base.specs.declared.ann_id.AnnId.{AnnId}
 use Rattle.mark_base.specs.declared.ann_id.Kind.{Kind}
@@ -14,9 +14,9 @@ use Rattle.layer_model.specs.Layers.{is_of_kind}
 use Rattle.layer_core.specs.Ids.{id_at}
 use Rattle.ann_reader.specs.Lines.{has_tab, first_field, behind_tab, without_return, without_end}
 use Rattle.ann_reader.specs.Words.{words_of, behind_word, id_read, kind_read, number_read}
-use Rattle.ann_reader.specs.Forms.{Pair, Form, BadForm, TextForm, EventForm, RelationForm, AttributeForm, ClassForm, NormalForm, NoteForm, has_byte, before_byte, behind_byte, pairs_read, frags_read, text_with, text_form, event_with, event_form, relation_with, relation_by, relation_form, attribute_by, attribute_form, class_by, class_form, normal_by, normal_form, note_by, note_form, two_form, of_two, three_form, of_three, begins_two, begins_three, form_by, form_of}
+use Rattle.ann_reader.specs.Forms.{Pair, Form, BadForm, TextForm, EventForm, RelationForm, AttributeForm, ClassForm, NormalForm, NoteForm, has_byte, before_byte, behind_byte, pairs_read, frags_read, text_with, text_form, event_with, event_form, relation_with, relation_by, relation_form, attribute_by, attribute_form, class_by, class_form, normal_by, normal_form, note_by, note_form, two_form, of_two, three_form, of_three, begins_two, begins_three, form_of}
 use Rattle.ann_reader.specs.FormShows.{NamesSome}
-use Rattle.ann_reader.specs.References.{own_word, own_id}
+use Rattle.ann_reader.specs.References.{own_id}
 use Rattle.mark_base.specs.declared.places.TypeId.{TypeId}
 use Rattle.mark_base.specs.declared.arguments.Arg.{Arg}
 use Rattle.mark_base.specs.Names.{name_fault}

@@ -1,5 +1,5 @@
 -- One line of the pass that seeks the first fault.
-use Rattle.std.proofs.Common.{◌≡◌, ℕ, List, [], ◌∷◌, ◌++◌, refl, sym, ◌∙◌, ap, Option, Some, None, slice_index}
+use Rattle.std.proofs.Common.{◌≡◌, ℕ, List, [], ◌∷◌, ◌++◌, ◌∙◌, ap, Option, Some, None, slice_index}
 use Rattle.std.specs.Option.{option_or, option_map}
 use Rattle.annotation_conf.specs.Configurations.{Configuration}
 use Rattle.ann_reader.specs.declared.ann_fault.AnnWhat.{AnnWhat}

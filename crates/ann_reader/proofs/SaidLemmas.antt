@@ -1,5 +1,5 @@
 -- The layer that lines say, line by line: what is put stays, what is there was put, and the classes are those that were said.
-use Rattle.std.proofs.Common.{◌≡◌, ℕ, ◌⊎◌, inl, inr, Bool, true, false, ◌||◌, List, [], ◌∷◌, ◌++◌, refl, sym, ◌∙◌, ap, Option, Some, None, cond, is_some, eq-eqb}
+use Rattle.std.proofs.Common.{◌≡◌, ℕ, ◌⊎◌, inl, inr, Bool, true, false, ◌||◌, List, [], ◌∷◌, refl, sym, ◌∙◌, ap, Option, Some, None, cond, is_some, eq-eqb}
 use Rattle.std.specs.Option.{option_map_or}
 use Rattle.std.specs.List.{fold, list_any, cons_option}
 use Rattle.std.specs.FinMap as finite
@@ -15,10 +15,10 @@ use Rattle.layer_model.specs.Classes.{joined, rank}
 use Rattle.layer_model.specs.Layers.{has, has_number, is_of_kind, mark_at, mark_of, with_mark}
 use Rattle.layer_core.specs.PairRules.{is_id}
 use Rattle.ann_reader.specs.Lines.{Line}
-use Rattle.ann_reader.specs.Forms.{Form, form_of}
+use Rattle.ann_reader.specs.Forms.{form_of}
 use Rattle.ann_reader.specs.References.{own_id}
 use Rattle.ann_reader.specs.Marks.{Said, mark_of as mark_said, said_of}
-use Rattle.ann_reader.specs.AnnFaults.{with_read, with_said, with_form, with_line}
+use Rattle.ann_reader.specs.AnnFaults.{with_read, with_said, with_line}
 use Rattle.ann_reader.specs.AnnFiles.{is_line_of, said_in, joined_too}
 use Rattle.ann_reader.proofs.HeldLemmas.{stands_here, stands_still, came_from, classes_stay, marks_stay, numbers_stay}
 

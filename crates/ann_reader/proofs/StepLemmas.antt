@@ -1,5 +1,5 @@
 -- One line more: the front and the rest of a list at an index, a map of first lines, and a count.
-use Rattle.std.proofs.Common.{◌≡◌, ℕ, ◌+◌, ◌<◌, ◌≤◌, zero, suc, Bool, true, false, cond, ◌==◌, eq-eqb, ne_eqb, List, [], ◌∷◌, ◌++◌, map, take, drop, length, get_or, refl, sym, ◌∙◌, ap, subst, Option, Some, None, is_some, arith, slice_index}
+use Rattle.std.proofs.Common.{◌≡◌, ℕ, ◌+◌, ◌<◌, ◌≤◌, zero, suc, Bool, true, false, cond, ◌==◌, eq-eqb, ne_eqb, List, [], ◌∷◌, ◌++◌, map, take, drop, length, get_or, refl, sym, ◌∙◌, ap, Option, Some, None, is_some, arith, slice_index}
 use Rattle.std.specs.Prelude.{unwrap_or, count_by, find}
 use Rattle.std.specs.Option.{option_or, option_map, option_map_or}
 use Rattle.std.specs.BTreeMap.{BTreeMap, get, Updates}

@@ -1,12 +1,12 @@
 -- Where a text may be cut, and the pieces that line feeds separate.
-use Rattle.std.proofs.Common.{◌≡◌, ℕ, ◌+◌, ◌-◌, ◌<◌, ◌≤◌, ◌==◌, ◌&&◌, ◌||◌, zero, suc, Bool, true, false, not, cond, List, [], ◌∷◌, ◌++◌, length, map, drop, get_or, refl, sym, ◌∙◌, ap, subst, arith, count_by}
+use Rattle.std.proofs.Common.{◌≡◌, ℕ, ◌+◌, ◌-◌, ◌<◌, ◌≤◌, ◌==◌, ◌&&◌, ◌||◌, zero, suc, true, false, not, cond, List, length, map, get_or, sym, ◌∙◌, ap, subst, arith, count_by}
 use Rattle.std.specs.List.{slice_split}
 use Rattle.std.specs.Str.{IsUtf8, IsCharBoundary}
 use Rattle.std.proofs.lemmas.List.{length-map}
 use Rattle.std.proofs.lemmas.List.Splits.{length-slice_split}
 use Rattle.std.proofs.lemmas.List.Sums.{count_by-le-length}
 use Rattle.std.proofs.lemmas.Str.{IsCharBoundary-start, IsCharBoundary-after_ascii}
-use Rattle.ann_reader.specs.Lines.{Line, lines_from, has_tab, first_field, behind_tab, without_end, without_return}
+use Rattle.ann_reader.specs.Lines.{has_tab, first_field, behind_tab, without_end, without_return}
 use Rattle.ann_reader.specs.Forms.{BadForm, two_form, three_form, of_two, of_three}
 use denote.Ref.{Bor}
 

@@ -1,15 +1,14 @@
 -- The texts of lines whose spans lie in the text.
-use Rattle.std.proofs.Common.{◌≡◌, ℕ, min, ◌+◌, ◌<◌, ◌≤◌, Bool, true, false, not, ◌&&◌, ◌==◌, List, [], ◌∷◌, refl, sym, ◌∙◌, ap, subst, Option, Some, None, cond, nat_lt, nat_le, length, map, chars, arith}
+use Rattle.std.proofs.Common.{◌≡◌, ℕ, min, ◌<◌, ◌≤◌, Bool, true, false, not, ◌&&◌, ◌==◌, List, [], ◌∷◌, refl, sym, ◌∙◌, ap, Option, Some, None, cond, nat_lt, nat_le, length, map, chars, arith}
 use Rattle.std.specs.Prelude.{bytes_eq}
-use Rattle.std.specs.Option.{option_map_or, option_or, option_map, option_and_then}
-use Rattle.std.specs.List.{list_all, common_prefix_len}
-use Rattle.std.proofs.lemmas.Bool.{and_parts, and_from, false≢true, lt-ltb, le-leb, ltb-true, ltb-false, leb-true, eqb-true, not-false}
+use Rattle.std.specs.Option.{option_and_then}
+use Rattle.std.specs.List.{common_prefix_len}
+use Rattle.std.proofs.lemmas.Bool.{and_parts, and_from, false≢true, le-leb, ltb-true, ltb-false, leb-true, eqb-true, not-false}
 use Rattle.mark_base.specs.declared.ann_id.AnnId.{AnnId}
 use Rattle.mark_base.specs.declared.fragments.Frag.{Frag}
 use Rattle.char_documents.specs.Texts.{lies_in, all_lie_in, reference_text}
 use Rattle.annotation_conf.specs.Configurations.{Configuration}
 use Rattle.overlap_rules.specs.Overlaps.{are_ascending, last_end}
-use Rattle.layer_model.specs.declared.mark.Mark.{Mark}
 use Rattle.layer_model.specs.declared.mark.Mark.TheVariants as marked
 use Rattle.layer_model.specs.declared.span.Span.{Span}
 use Rattle.layer_model.specs.declared.flaw.FlawPlace.TheVariants as at
@@ -21,11 +20,11 @@ use Rattle.layer_core.specs.Rules.{where_so, bad_fragments, out_of_text}
 use Rattle.layer_core.specs.SpanRules.{are_fragments}
 use Rattle.layer_core.specs.WellFormed.{IsWellFormed}
 use Rattle.ann_reader.specs.NamesRead.{type_read}
-use Rattle.ann_reader.specs.Forms.{Form, TextForm}
+use Rattle.ann_reader.specs.Forms.{TextForm}
 use Rattle.ann_reader.specs.Marks.{mark_of, span_by}
 use Rattle.ann_reader.specs.AnnFaults.{as_space, differing, text_differs}
 use Rattle.ann_reader.specs.AnnFiles.{HasMark}
-use Rattle.ann_reader.proofs.CleanLemmas.{Found, unsome, not_some}
+use Rattle.ann_reader.proofs.CleanLemmas.{not_some}
 
 -- ---- fragments in order, of which the last ends in the text, lie in the text
 

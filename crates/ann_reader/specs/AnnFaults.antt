@@ -1,10 +1,9 @@
 -- The layer that the lines of a file say, and the first fault of a file: of its bytes, of its lines, of the layer, and of its texts.
-use Rattle.std.specs.Prelude.{ℕ, min, ◌+◌, ◌==◌, ◌&&◌, Bool, true, false, List, [], ◌∷◌, length, map, take, nat_lt, bytes_eq, count_by, find, chars, slice_get, Option, Some, None, option_map, option_and_then, if◌then◌else◌}
+use Rattle.std.specs.Prelude.{ℕ, min, ◌+◌, ◌==◌, ◌&&◌, Bool, false, List, [], ◌∷◌, length, map, take, nat_lt, bytes_eq, count_by, find, chars, slice_get, Option, Some, None, option_map, option_and_then, if◌then◌else◌}
 use Rattle.std.specs.Option.{option_or, option_map_or}
 use Rattle.std.specs.List.{list_any, fold, common_prefix_len}
 use Rattle.std.specs.Str.Lossy.{utf8_valid_len}
 use Rattle.mark_base.specs.declared.ann_id.AnnId.{AnnId}
-use Rattle.mark_base.specs.declared.fragments.Frag.{Frag}
 use Rattle.char_documents.specs.Texts.{all_lie_in, reference_text}
 use Rattle.annotation_conf.specs.Configurations.{Configuration}
 use Rattle.layer_model.specs.declared.class.Class.{Class}
@@ -16,10 +15,9 @@ use Rattle.layer_model.specs.Annotations.{Annotations, no_marks}
 use Rattle.layer_model.specs.Classes.{is_among, joined}
 use Rattle.layer_model.specs.Layers.{has, with_mark, with_classes}
 use Rattle.layer_core.specs.WellFormed.{least_flaw}
-use Rattle.ann_reader.specs.declared.ann_fault.AnnWhat.{AnnWhat}
 use Rattle.ann_reader.specs.declared.ann_fault.AnnWhat.TheVariants.{NotUtf8, WrongText, Broken}
 use Rattle.ann_reader.specs.Lines.{Line, lines_of}
-use Rattle.ann_reader.specs.Forms.{Form, BadForm, TextForm, form_of}
+use Rattle.ann_reader.specs.Forms.{Form, TextForm, form_of}
 use Rattle.ann_reader.specs.References.{own_id}
 use Rattle.ann_reader.specs.Marks.{Said, mark_of, said_of}
 use Rattle.ann_reader.specs.LineFaults.{Fault, headed_by, first_line_fault}

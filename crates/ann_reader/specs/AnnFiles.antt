@@ -1,5 +1,5 @@
 -- Which layer an .ann file is: a relation by cases on its lines (brat standoff manual).
-use Rattle.std.specs.Prelude.{◌≡◌, ℕ, Bool, true, false, List, [], length, map, chars, Option, Some, IsSome, IsUtf8}
+use Rattle.std.specs.Prelude.{◌≡◌, ℕ, Bool, true, false, List, [], length, map, chars, Some, IsSome, IsUtf8}
 use Rattle.std.specs.Option.{option_map_or}
 use Rattle.std.specs.List.{list_any, filter_map, fold, AllByRecursion}
 use Rattle.mark_base.specs.declared.ann_id.AnnId.{AnnId}

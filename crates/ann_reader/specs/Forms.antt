@@ -1,6 +1,5 @@
 -- The forms of lines, one for each letter (brat standoff manual: the sections on text-bound annotations, events, relations, attributes, normalizations and notes).
-use Rattle.std.specs.Prelude.{ℕ, ◌==◌, ◌||◌, ◌&&◌, Bool, not, List, [], ◌∷◌, length, map, slice_index, bytes_eq, codes, Option, Some, None, option_map, if◌then◌else◌}
-use Rattle.std.specs.Option.{option_map_or}
+use Rattle.std.specs.Prelude.{ℕ, ◌==◌, ◌||◌, ◌&&◌, Bool, not, List, [], ◌∷◌, length, map, slice_index, bytes_eq, codes, Option, Some, None, if◌then◌else◌}
 use Rattle.std.specs.List.{list_any, before_first, after_first, slice_split}
 use Rattle.mark_base.specs.declared.fragments.Frag.{Frag}
 use Rattle.ann_reader.specs.Lines.{has_tab, first_field, behind_tab, without_return, without_end}

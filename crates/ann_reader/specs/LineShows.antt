@@ -1,5 +1,4 @@
 -- What the values of a reader show of lines and forms.
-use Rattle.std.specs.Prelude.{ℕ, List, map, Option, option_map}
 use Rattle.ann_reader.specs.declared.line.Line.{Line as LineValue}
 use Rattle.ann_reader.specs.Lines.{Line}
 

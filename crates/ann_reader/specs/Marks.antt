@@ -1,5 +1,5 @@
 -- What a line says under a configuration: the annotation that it spells, or the class.
-use Rattle.std.specs.Prelude.{ℕ, ◌&&◌, ◌==◌, Bool, true, false, List, [], ◌∷◌, map, bytes_eq, Option, Some, None, option_map, option_and_then, if◌then◌else◌, is_none}
+use Rattle.std.specs.Prelude.{ℕ, ◌&&◌, Bool, true, false, List, map, bytes_eq, Option, Some, None, option_map, option_and_then, if◌then◌else◌, is_none}
 use Rattle.std.specs.Option.{option_map_or}
 use Rattle.mark_base.specs.declared.ann_id.AnnId.{AnnId}
 use Rattle.mark_base.specs.declared.places.TypeId.{TypeId}

@@ -7,7 +7,7 @@ use Rattle.layer_model.specs.Coherent.{is_span_letter, is_span_or_event_letter, 
 use Rattle.ann_reader.specs.declared.letters.Letters.{Letters}
 use Rattle.ann_reader.specs.declared.letters.Letters.TheVariants.{Spans, SpansOrEvents, Attributed, AnyButNotes}
 use Rattle.ann_reader.specs.Words.{kind_read, id_read}
-use Rattle.ann_reader.specs.Forms.{Pair, Form, BadForm, TextForm, EventForm, RelationForm, AttributeForm, ClassForm, NormalForm, NoteForm}
+use Rattle.ann_reader.specs.Forms.{Form, BadForm, TextForm, EventForm, RelationForm, AttributeForm, ClassForm, NormalForm, NoteForm}
 
 -- the letter may stand there
 abbrev pub may_stand : Letters → Kind → Bool

@@ -1,6 +1,6 @@
 -- The words of a field, and how a number, an ID and fragments are spelt.
 use Rattle.std.specs.Prelude.{ℕ, ◌-◌, ◌==◌, ◌||◌, Bool, not, List, [], ◌∷◌, length, drop, slice_index, Option, Some, None, option_map, option_and_then, filter, if◌then◌else◌}
-use Rattle.std.specs.List.{before_first, after_first, slice_split, prefix_len}
+use Rattle.std.specs.List.{after_first, slice_split, prefix_len}
 use Rattle.std.specs.Str.Parse.{digits_value}
 use Rattle.mark_base.specs.declared.ann_id.AnnId.{AnnId}
 use Rattle.mark_base.specs.declared.ann_id.Kind.{Kind}

@@ -1,13 +1,11 @@
 -- The line of each class says the class, and the classes that are said are those of the layer.
-use Rattle.std.proofs.Common.{◌≡◌, refl, sym, ap, ap₂, ◌∙◌, subst, ℕ, zero, suc, ◌+◌, ◌<◌, ◌≤◌, Bool, true, false, cond, not, ◌||◌, ◌&&◌, ◌==◌, List, [], ◌∷◌, ◌++◌, length, map, filter, append-nil, append_assoc, nat_lt, codes, arith, tests, Option, Some, None, is_some, option_map, option_and_then, slice_get}
-use Rattle.std.proofs.lemmas.Bool.{or_from, or_parts, and_parts, true≢false, eq-eqb, eqb-true, false_from_ne_true}
+use Rattle.std.proofs.Common.{◌≡◌, refl, sym, ap, ap₂, ◌∙◌, subst, ℕ, suc, ◌<◌, Bool, true, false, cond, not, ◌||◌, ◌&&◌, ◌==◌, List, [], ◌∷◌, ◌++◌, length, map, append-nil, append_assoc, nat_lt, codes, arith, Some, None, is_some, option_and_then, slice_get}
+use Rattle.std.proofs.lemmas.Bool.{or_from, eq-eqb, eqb-true}
 use Rattle.std.proofs.lemmas.Bool.Decides.{nat_tests}
 use Rattle.std.specs.Option.{is_none}
 use Rattle.std.specs.Str.{NonePass}
 use Rattle.std.specs.Ordering.{nat_cmp, match_ordering}
-use Rattle.std.specs.declared.cmp.Ordering.{Ordering}
-use Rattle.std.specs.declared.cmp.Ordering.TheVariants.{Less, Equal, Greater}
-use Rattle.std.specs.Cmp.{nat_cmp_total}
+use Rattle.std.specs.declared.cmp.Ordering.TheVariants.{Less, Greater}
 use Rattle.std.specs.List.{AllByRecursion, list_any, fold}
 use Rattle.std.specs.List.Sorted.{IsStrictlySortedBy}
 use Rattle.mark_base.specs.declared.ann_id.AnnId.{AnnId}
@@ -17,9 +15,9 @@ use Rattle.annotation_conf.specs.ConfText.{relation_name_at}
 use Rattle.layer_model.specs.declared.class.Class.{Class}
 use Rattle.layer_model.specs.declared.flaw.FlawPlace.TheVariants as at
 use Rattle.layer_model.specs.Annotations.{Annotations}
-use Rattle.layer_model.specs.Classes.{rank, has_rank, is_among, with_id, ascending, Ascends, least_of, comes_before, insert_class, shares, sharing, apart, joined_class, joined, IsClass, AreDisjoint, Precedes, AreClasses}
+use Rattle.layer_model.specs.Classes.{rank, has_rank, is_among, with_id, ascending, Ascends, least_of, comes_before, insert_class, shares, sharing, apart, joined, IsClass, Precedes, AreClasses}
 use Rattle.layer_model.proofs.ClassOrder.{insert_class-last}
-use Rattle.layer_core.specs.Rules.{where_so, unknown_type, unknown_class}
+use Rattle.layer_core.specs.Rules.{where_so, unknown_class}
 use Rattle.layer_model.specs.declared.rule.Rule.{Rule}
 use Rattle.ann_reader.specs.Lines.{is_blank, first_field}
 use Rattle.ann_reader.specs.Words.{id_read, all_of}
@@ -27,11 +25,11 @@ use Rattle.ann_reader.specs.Forms.{Form, ClassForm, form_of}
 use Rattle.ann_reader.specs.References.{own_id}
 use Rattle.ann_reader.specs.Marks.{Said, said_by, said_of}
 use Rattle.ann_reader.specs.AnnFiles.{Spells, joined_too, classes_of}
-use Rattle.ann_writer.specs.Words.{id_word, words_behind}
-use Rattle.ann_writer.proofs.PlainWords.{IsPlain, name_plain, no_feed, spelling_plain}
+use Rattle.ann_writer.specs.Words.{id_word}
+use Rattle.ann_writer.proofs.PlainWords.{IsPlain, name_plain}
 use Rattle.ann_writer.proofs.FieldWords.{all_read}
 use Rattle.ann_writer.proofs.NumberWords.{id_read_back, map_twice, map_same}
-use Rattle.ann_writer.proofs.NameFacts.{IsRelationName, relation_facts}
+use Rattle.ann_writer.proofs.NameFacts.{relation_facts}
 use Rattle.ann_writer.proofs.LineForms.{body, class_line_read}
 use Rattle.ann_writer.proofs.MarkLines.{IsHeld, id_plain, unbroken_words}
 

@@ -1,6 +1,6 @@
 -- The names of a configuration are words that are read back as their places.
-use Rattle.std.proofs.Common.{◌≡◌, refl, sym, ap, ap₂, ◌∙◌, subst, ℕ, zero, suc, ◌+◌, ◌<◌, ◌≤◌, Bool, true, false, cond, ◌||◌, ◌&&◌, ◌==◌, List, [], ◌∷◌, length, map, take, position, arith, Option, Some, None, is_some, option_map, slice_get, bytes_eq, get_or, inl, inr, if◌then◌else◌}
-use Rattle.std.proofs.lemmas.Bool.{or_parts, or_from, true≢false, false_from_ne_true, cases_lt}
+use Rattle.std.proofs.Common.{◌≡◌, refl, sym, ap, ◌∙◌, subst, ℕ, zero, suc, ◌+◌, ◌<◌, ◌≤◌, Bool, true, false, cond, List, [], ◌∷◌, length, map, take, arith, Option, Some, None, option_map, slice_get, bytes_eq, inl, inr, if◌then◌else◌}
+use Rattle.std.proofs.lemmas.Bool.{or_parts, or_from, true≢false, cases_lt}
 use Rattle.std.proofs.lemmas.Slice.Eq.{bytes_eq-Decides}
 use Rattle.std.proofs.lemmas.Option.{slice_get_within, get_or_from_slice_get}
 use Rattle.std.specs.Option.{is_none, option_map_or, option_or}
@@ -9,7 +9,7 @@ use Rattle.std.specs.List.{All, list_any, position_from, range_with_len}
 use Rattle.mark_base.specs.declared.places.TypeId.{TypeId}
 use Rattle.type_hierarchy.specs.declared.type_row.TypeRow.{TypeRow}
 use Rattle.type_hierarchy.specs.TypeTrees.{is_named, type_named}
-use Rattle.type_hierarchy.specs.TypeFaults.{fault_of, name_twice, bad_parent, are_too_many, is_twice, first_place}
+use Rattle.type_hierarchy.specs.TypeFaults.{fault_of, name_twice, bad_parent, are_too_many, is_twice}
 use Rattle.type_hierarchy.specs.declared.types_fault.TypesFault.{TypesFault}
 use Rattle.type_hierarchy.specs.declared.types_fault.TypesFault.TheVariants.{NameTwice, BadParent, TooMany}
 use Rattle.annotation_conf.specs.Configurations.{Configuration}
@@ -17,9 +17,9 @@ use Rattle.annotation_conf.specs.declared.role.Role.{Role}
 use Rattle.annotation_conf.specs.declared.relation_type.RelationType.{RelationType}
 use Rattle.annotation_conf.specs.declared.attribute_type.AttributeType.{AttributeType}
 use Rattle.annotation_conf.specs.ConfFaults.{is_among, stands_twice}
-use Rattle.annotation_conf.specs.Lookups.{relation_named, attribute_named, values_of, value_named, roles_of, role_named}
-use Rattle.annotation_conf.specs.Sound.{IsSound, IsName, IsDeclaredName, IsRole, AreRoles, IsRelation, IsAttribute}
-use Rattle.annotation_conf.proofs.Written.{IsWord, IsDeclaredWord}
+use Rattle.annotation_conf.specs.Lookups.{relation_named, attribute_named, roles_of}
+use Rattle.annotation_conf.specs.Sound.{IsSound, IsName, IsDeclaredName, AreRoles, IsRelation, IsAttribute}
+use Rattle.annotation_conf.proofs.Written.{IsWord}
 use Rattle.annotation_conf.proofs.WrittenNames.{declared_word, no_fault, none_at}
 
 -- ---- lists

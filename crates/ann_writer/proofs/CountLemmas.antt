@@ -1,5 +1,5 @@
 -- The words of arguments and the counts of roles, from argument to argument.
-use Rattle.std.proofs.Common.{◌≡◌, ℕ, ◌+◌, ◌<◌, ◌≤◌, ◌==◌, Bool, true, false, cond, List, [], ◌∷◌, ◌++◌, length, zero, suc, refl, sym, ◌∙◌, ap, arith, take, drop, get_or, slice_index, slice_set, count_by, replicate, append_assoc, add-one, drop-cons, length-set, subst}
+use Rattle.std.proofs.Common.{◌≡◌, ℕ, ◌+◌, ◌<◌, ◌==◌, Bool, true, false, List, [], ◌∷◌, ◌++◌, length, zero, suc, refl, sym, ◌∙◌, ap, arith, take, drop, get_or, slice_index, slice_set, replicate, append_assoc, add-one, drop-cons, length-set, subst}
 use Rattle.std.proofs.lemmas.List.{take_more, get_or-set_same, get_or-set_other}
 use Rattle.std.proofs.lemmas.List.Sums.{count_by_more_yes, count_by_more_no}
 use Rattle.std.proofs.lemmas.Bool.{eqb-true, eq-eqb}

@@ -1,16 +1,16 @@
 -- The fields of a written line, and the words of a field, are read back.
-use Rattle.std.proofs.Common.{◌≡◌, refl, sym, ap, ap₂, ◌∙◌, subst, ℕ, zero, suc, ◌+◌, ◌-◌, ◌<◌, ◌≤◌, Bool, true, false, cond, not, ◌||◌, ◌&&◌, ◌==◌, List, [], ◌∷◌, ◌++◌, length, take, drop, filter, slice_index, get_or, arith, append-nil, append_assoc, codes, Option, Some, None, option_map, option_and_then, map, take_all, le_refl}
-use Rattle.std.proofs.lemmas.Bool.{or_from, or_parts, and_from, ne_eqb, true≢false}
+use Rattle.std.proofs.Common.{◌≡◌, refl, sym, ap, ap₂, ◌∙◌, ℕ, zero, suc, ◌-◌, ◌<◌, Bool, true, false, cond, not, ◌||◌, ◌&&◌, ◌==◌, List, [], ◌∷◌, ◌++◌, length, take, filter, slice_index, arith, append-nil, append_assoc, codes, Option, Some, None, option_map, option_and_then, map, take_all, le_refl}
+use Rattle.std.proofs.lemmas.Bool.{or_from, or_parts, and_from, ne_eqb}
 use Rattle.std.proofs.lemmas.List.Sums.{suffix_len-take_no}
 use Rattle.std.specs.Str.{NonePass}
-use Rattle.std.specs.List.{AllByRecursion, list_any, slice_split, suffix_len, prefix_len, after_first, before_first}
+use Rattle.std.specs.List.{AllByRecursion, list_any, slice_split, suffix_len}
 use Rattle.annotation_conf.proofs.WrittenLists.{split_none, split_at, before_at, after_at, any_at}
 use Rattle.annotation_conf.proofs.WrittenPieces.{first-append}
 use Rattle.ann_reader.specs.Lines.{has_tab, first_field, behind_tab, is_gap, without_gap, without_return, without_end}
-use Rattle.ann_reader.specs.Words.{is_space, is_padded, is_some_word, words_of, behind_word, all_of}
+use Rattle.ann_reader.specs.Words.{is_space, is_padded, is_some_word, words_of, all_of}
 use Rattle.ann_reader.specs.Forms.{Form, Pair, BadForm, two_form, of_two, three_form, of_three, pair_read, has_byte, before_byte, behind_byte}
 use Rattle.ann_writer.specs.Words.{pair_word, words_behind}
-use Rattle.ann_writer.proofs.PlainWords.{IsPlain, parts, no_space, no_tab, no_return, longer}
+use Rattle.ann_writer.proofs.PlainWords.{IsPlain, parts, no_space, longer}
 
 -- ---- bytes
 

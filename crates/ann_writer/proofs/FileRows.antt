@@ -1,16 +1,15 @@
 -- The lines of a file as rows: what each is, the ID that it has, and what it says of a class.
-use Rattle.std.proofs.Common.{◌≡◌, refl, sym, ap, ap₂, ◌∙◌, subst, ℕ, zero, suc, ◌+◌, ◌*◌, ◌-◌, ◌<◌, ◌≤◌, min, Bool, true, false, cond, not, ◌||◌, ◌&&◌, ◌==◌, T, List, [], ◌∷◌, ◌++◌, length, map, append-nil, append_assoc, nat_lt, codes, arith, tests, Option, Some, None, is_some, option_map, option_and_then}
-use Rattle.std.proofs.lemmas.Bool.{or_from, or_parts, and_parts, true≢false, eq-eqb, eqb-true, ne_eqb, false_from_ne_true, ltb-false}
-use Rattle.std.proofs.lemmas.List.Folds.{find-append, list_any-append}
+use Rattle.std.proofs.Common.{◌≡◌, refl, sym, ap, ap₂, ◌∙◌, subst, ℕ, ◌+◌, ◌*◌, ◌<◌, ◌≤◌, min, Bool, true, false, cond, ◌||◌, ◌&&◌, ◌==◌, T, List, [], ◌∷◌, ◌++◌, map, append_assoc, nat_lt, codes, arith, tests, Option, Some, None, is_some}
+use Rattle.std.proofs.lemmas.Bool.{true≢false, eq-eqb, ne_eqb}
+use Rattle.std.proofs.lemmas.List.Folds.{find-append}
 use Rattle.std.specs.Option.{option_map_or, option_or, MatchOption}
 use Rattle.std.specs.Str.{NonePass}
 use Rattle.std.specs.Ordering.{nat_cmp, is_lt, is_eq, eq_by_cmp}
-use Rattle.std.specs.Cmp.{nat_cmp_total, ranked}
+use Rattle.std.specs.Cmp.{ranked}
 use Rattle.std.specs.declared.cmp.Ordering.{Ordering}
 use Rattle.std.specs.declared.cmp.Ordering.TheVariants.{Less, Equal, Greater}
-use Rattle.std.specs.List.{AllByRecursion, list_any, find, flat_map, filter_map, slice_split, cons_option}
+use Rattle.std.specs.List.{AllByRecursion, list_any, flat_map, filter_map, slice_split, cons_option}
 use Rattle.std.specs.FinMap as finite
-use Rattle.std.specs.FinMap.{entries_sorted, contains_key-keys}
 use Rattle.std.specs.FinMap.Entries.{is_sorted, below_all}
 use Rattle.mark_base.specs.declared.ann_id.AnnId.{AnnId}
 use Rattle.mark_base.specs.declared.ann_id.Kind.{Kind}

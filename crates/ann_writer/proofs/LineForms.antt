@@ -1,8 +1,8 @@
 -- Each written line has the form that its parts spell.
-use Rattle.std.proofs.Common.{◌≡◌, refl, sym, ap, ap₂, ◌∙◌, subst, ℕ, zero, suc, ◌+◌, ◌-◌, ◌<◌, ◌≤◌, Bool, true, false, cond, not, ◌||◌, ◌&&◌, ◌==◌, List, [], ◌∷◌, ◌++◌, length, map, drop, filter, slice_index, decimal, arith, append-nil, append_assoc, codes, Option, Some, None, option_map, option_and_then}
-use Rattle.std.proofs.lemmas.Bool.{or_from, or_parts, and_from, ne_eqb, true≢false}
+use Rattle.std.proofs.Common.{◌≡◌, refl, sym, ap, ap₂, ◌∙◌, subst, ℕ, ◌+◌, ◌<◌, ◌≤◌, Bool, true, false, cond, ◌==◌, List, [], ◌∷◌, ◌++◌, length, drop, slice_index, decimal, arith, append-nil, append_assoc, codes, Some, option_map, option_and_then}
+use Rattle.std.proofs.lemmas.Bool.{true≢false}
 use Rattle.std.specs.Str.{NonePass}
-use Rattle.std.specs.List.{AllByRecursion, slice_split, prefix_len, after_first, list_any}
+use Rattle.std.specs.List.{AllByRecursion, prefix_len, after_first}
 use Rattle.mark_base.specs.declared.ann_id.Kind.{Kind}
 use Rattle.mark_base.specs.declared.ann_id.Kind.TheVariants as letter
 use Rattle.mark_base.specs.declared.fragments.Frag.{Frag}
@@ -10,11 +10,11 @@ use Rattle.mark_base.specs.AnnIds.{spelling_of}
 use Rattle.annotation_conf.proofs.WrittenLists.{after_at, before_at, any_at, none-append}
 use Rattle.annotation_conf.proofs.WrittenPieces.{first-append}
 use Rattle.ann_reader.specs.Lines.{without_return, without_end}
-use Rattle.ann_reader.specs.Words.{is_space, words_of, behind_word}
-use Rattle.ann_reader.specs.Forms.{Pair, Form, BadForm, TextForm, EventForm, RelationForm, AttributeForm, ClassForm, NormalForm, NoteForm, two_form, of_two, three_form, of_three, form_of, form_by, pairs_read, pair_read, frags_read, has_byte, before_byte, behind_byte, text_form, text_with, event_form, event_with, relation_form, relation_by, relation_with, attribute_form, attribute_by, class_form, class_by, normal_form, normal_by, note_form, note_by}
+use Rattle.ann_reader.specs.Words.{is_space, behind_word}
+use Rattle.ann_reader.specs.Forms.{Pair, Form, BadForm, TextForm, EventForm, RelationForm, ClassForm, NormalForm, NoteForm, two_form, of_two, three_form, of_three, form_of, form_by, pairs_read, frags_read, has_byte, before_byte, behind_byte, text_with, event_with, relation_by, relation_with, attribute_form, attribute_by, class_by, normal_by, note_by}
 use Rattle.ann_writer.specs.Words.{frags_word, pair_word, words_behind, line_of, line_with_text}
-use Rattle.ann_writer.proofs.PlainWords.{IsPlain, parts, no_tab, no_space, no_return, longer, spelling_plain, decimal_plain}
-use Rattle.ann_writer.proofs.FieldWords.{last, last_words, last-append, words_read, unended, unreturned, two_read, three_read, none_index, pair_read_back}
+use Rattle.ann_writer.proofs.PlainWords.{IsPlain, parts, no_tab, no_space, longer, spelling_plain, decimal_plain}
+use Rattle.ann_writer.proofs.FieldWords.{last_words, last-append, words_read, unended, two_read, three_read, none_index, pair_read_back}
 use Rattle.ann_writer.proofs.NumberWords.{IsShort, ends, ends_plain, spaced, frags_read_back}
 
 -- ---- lines without their line feed

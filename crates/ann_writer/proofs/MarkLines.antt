@@ -1,9 +1,9 @@
 -- The line of each annotation says that annotation.
-use Rattle.std.proofs.Common.{◌≡◌, refl, sym, ap, ap₂, ◌∙◌, subst, ℕ, zero, suc, ◌+◌, ◌-◌, ◌<◌, ◌≤◌, min, Bool, true, false, cond, not, ◌||◌, ◌&&◌, ◌==◌, List, [], ◌∷◌, ◌++◌, length, append-nil, nat_lt, nat_le, decimal, codes, arith, tests, chars, IsUtf8, encode_utf8_all, Option, Some, None, is_some, option_map, option_and_then, slice_get}
-use Rattle.std.proofs.lemmas.Bool.{or_from, or_parts, and_parts, true≢false, ne_eqb}
+use Rattle.std.proofs.Common.{◌≡◌, refl, sym, ap, ap₂, ◌∙◌, subst, ℕ, ◌<◌, ◌≤◌, min, Bool, true, false, cond, not, ◌||◌, ◌&&◌, ◌==◌, List, [], ◌∷◌, ◌++◌, length, append-nil, nat_lt, nat_le, decimal, codes, arith, tests, chars, IsUtf8, encode_utf8_all, Option, Some, None, is_some, option_map, option_and_then, slice_get}
+use Rattle.std.proofs.lemmas.Bool.{or_from, or_parts, and_parts, true≢false}
 use Rattle.std.specs.Coded.{le_prop}
 use lib.Utf8.{scalars}
-use Rattle.std.specs.Option.{is_none, option_map_or}
+use Rattle.std.specs.Option.{is_none}
 use Rattle.std.specs.Char.{is_whitespace}
 use Rattle.std.specs.Str.{NonePass}
 use Rattle.std.specs.List.{AllByRecursion, list_all, list_any}
@@ -36,11 +36,11 @@ use Rattle.layer_model.specs.declared.class.Class.{Class}
 use Rattle.layer_model.specs.declared.rule.Rule.{Rule}
 use Rattle.layer_model.specs.declared.flaw.FlawPlace.TheVariants as at
 use Rattle.layer_model.specs.Annotations.{Annotations}
-use Rattle.layer_model.specs.Layers.{IsLayer, mark_of as marked_of, mark_at}
+use Rattle.layer_model.specs.Layers.{mark_of as marked_of}
 use Rattle.layer_model.specs.Numbers.{NumbersFit}
 use Rattle.layer_core.specs.Ids.{id_at}
 use Rattle.layer_core.specs.Places.{by_place}
-use Rattle.layer_core.specs.Rules.{where_so, unknown_type, unknown_class, bad_fragments, out_of_text, unknown_role, unknown_value, is_bad_value}
+use Rattle.layer_core.specs.Rules.{where_so, unknown_type, unknown_class, bad_fragments, unknown_value, is_bad_value}
 use Rattle.layer_core.specs.PairRules.{bad_text}
 use Rattle.layer_core.specs.SpanRules.{are_fragments, is_bad_text, is_bad_store, is_bad_entry}
 use Rattle.layer_core.specs.Fields.{Declared}
@@ -57,7 +57,7 @@ use Rattle.ann_reader.specs.Marks.{mark_of, said_of, event_by, args_of, relation
 use Rattle.ann_reader.specs.AnnFiles.{HasMark, Spells}
 use Rattle.ann_writer.specs.Words.{id_word, frags_word, pair_word, argument_words, words_behind}
 use Rattle.ann_writer.specs.AnnOf.{relation_role_at, attribute_name_at, value_name_at, value_words}
-use Rattle.ann_writer.specs.Writable.{IsOfProgram, IsWritable}
+use Rattle.ann_writer.specs.Writable.{IsOfProgram}
 use Rattle.ann_writer.proofs.WritableLemmas.{writable}
 use Rattle.ann_writer.proofs.PlainWords.{IsPlain, parts, no_tab, no_feed, name_plain, name_colon, spelling_plain, bytes_free, past_parts, decimal_plain}
 use Rattle.ann_writer.proofs.NumberWords.{IsShort, spelling_read, id_read_back, ends, ends_plain, spaced}

@@ -5,7 +5,7 @@ use Rattle.std.specs.Ordering.{nat_cmp, eq_by_cmp}
 use Rattle.std.specs.FinMap as finite
 use Rattle.std.specs.FinMap.{get-entries}
 use Rattle.std.specs.FinMap.Entries.{find}
-use Rattle.std.proofs.Common.{Bool, true, false, cond, Option, None, refl}
+use Rattle.std.proofs.Common.{true, false, cond, None}
 
 -- one line more
 pub lines_on : {V : Type 0} (line : ℕ → V → List ℕ) (out made whole : List ℕ) (rest later : List (ℕ × V)) (n : ℕ) (v : V) → rest ≡ (n, v) ∷ later → made ≡ out ++ line n v

@@ -1,11 +1,9 @@
 -- The names that lines are written with are words, and are read back as the places that they stand for.
-use Rattle.std.proofs.Common.{◌≡◌, refl, sym, ap, ap₂, ◌∙◌, subst, ℕ, zero, suc, ◌+◌, ◌<◌, ◌≤◌, Bool, true, false, cond, not, ◌||◌, ◌&&◌, ◌==◌, List, [], ◌∷◌, ◌++◌, length, map, take, drop, arith, nat_lt, decimal, Option, Some, None, is_some, option_map, option_and_then, slice_get, bytes_eq, unwrap_or, tests, take-append-drop, inl, inr}
-use Rattle.std.proofs.lemmas.Bool.{or_parts, and_parts, true≢false, eqb-true, false_from_ne_true}
-use Rattle.std.specs.Option.{is_none, option_map_or, option_or}
-use Rattle.std.specs.Str.{NonePass}
-use Rattle.std.specs.List.{All, AllByRecursion, position_from}
+use Rattle.std.proofs.Common.{◌≡◌, refl, sym, ap, ap₂, ◌∙◌, subst, ℕ, zero, suc, ◌<◌, true, false, cond, List, [], ◌∷◌, length, arith, Option, Some, None, option_map, option_and_then, slice_get, bytes_eq, unwrap_or}
+use Rattle.std.proofs.lemmas.Bool.{true≢false}
+use Rattle.std.specs.Option.{is_none, option_map_or}
+use Rattle.std.specs.List.{position_from}
 use Rattle.mark_base.specs.declared.places.TypeId.{TypeId}
-use Rattle.mark_base.specs.Names.{name_fault}
 use Rattle.type_hierarchy.specs.declared.type_row.TypeRow.{TypeRow}
 use Rattle.type_hierarchy.specs.TypeTrees.{type_named}
 use Rattle.annotation_conf.specs.Configurations.{Configuration}
@@ -13,8 +11,8 @@ use Rattle.annotation_conf.specs.declared.role.Role.{Role}
 use Rattle.annotation_conf.specs.declared.relation_type.RelationType.{RelationType}
 use Rattle.annotation_conf.specs.declared.attribute_type.AttributeType.{AttributeType}
 use Rattle.annotation_conf.specs.ConfText.{type_name_at, relation_name_at}
-use Rattle.annotation_conf.specs.Lookups.{relation_named, relation_role, attribute_named, attribute_name, values_of, value_named, roles_of, role_named, role_name}
-use Rattle.annotation_conf.specs.Sound.{IsSound, IsName, IsDeclaredName, IsRole, AreRoles, IsRelation, IsAttribute}
+use Rattle.annotation_conf.specs.Lookups.{relation_named, relation_role, attribute_named, values_of, value_named, roles_of, role_named}
+use Rattle.annotation_conf.specs.Sound.{IsSound, IsName, IsRole, AreRoles, IsRelation, IsAttribute}
 use Rattle.annotation_conf.proofs.Written.{IsWord}
 use Rattle.annotation_conf.specs.ConfFaults.{stands_twice}
 use Rattle.layer_core.specs.Fields.{Undeclared, Declared}

@@ -1,5 +1,5 @@
 -- Words of lines: what no byte of a name, a number or an ID is.
-use Rattle.std.proofs.Common.{◌≡◌, refl, sym, ap, ◌∙◌, ℕ, zero, suc, ◌+◌, ◌-◌, ◌<◌, ◌≤◌, ◌^◌, Bool, true, false, ◌||◌, ◌&&◌, ◌==◌, List, [], ◌∷◌, ◌++◌, length, slice_index, decimal, arith, IsUtf8, chars, ⊎_elim, encode_utf8_all}
+use Rattle.std.proofs.Common.{◌≡◌, refl, ap, ℕ, suc, ◌<◌, ◌≤◌, ◌^◌, Bool, true, false, ◌||◌, ◌==◌, List, [], ◌∷◌, ◌++◌, length, slice_index, decimal, arith, IsUtf8, chars, ⊎_elim, encode_utf8_all}
 use Rattle.std.proofs.lemmas.Bool.{or_from, or_parts, ne_eqb, cases_lt}
 use Rattle.std.proofs.lemmas.Str.{encodes-chars, NoCharPasses-byte, length-le-encodes}
 use Rattle.std.proofs.lemmas.Str.Parse.{IsNumeralModel, numerals_by_value, tells_all_ascii_digits}

@@ -1,28 +1,26 @@
 -- The arguments of a written event are read back.
-use Rattle.std.proofs.Common.{◌≡◌, refl, sym, ap, ap₂, ◌∙◌, subst, ℕ, zero, suc, ◌+◌, ◌-◌, ◌<◌, ◌≤◌, Bool, true, false, cond, not, ◌||◌, ◌&&◌, ◌==◌, List, [], ◌∷◌, ◌++◌, length, map, take, drop, arith, nat_lt, slice_index, decimal, codes, append_assoc, Option, Some, None, option_map, option_and_then, bytes_eq, take-append-drop, get_or}
+use Rattle.std.proofs.Common.{◌≡◌, refl, sym, ap, ap₂, ◌∙◌, subst, ℕ, suc, ◌+◌, ◌-◌, ◌<◌, Bool, true, false, cond, ◌&&◌, ◌==◌, List, [], ◌∷◌, ◌++◌, length, take, drop, arith, nat_lt, decimal, codes, Option, Some, None, option_map, option_and_then, bytes_eq, take-append-drop}
 use Rattle.std.proofs.lemmas.Bool.{and_parts, true≢false, eqb-true}
 use Rattle.std.specs.Option.{option_map_or, option_or}
 use Rattle.std.specs.Str.{NonePass, all_ascii_digits}
 use Rattle.std.specs.List.{All, AllByRecursion, position_from}
 use Rattle.std.proofs.lemmas.Bool.{ne_eqb}
-use Rattle.mark_base.specs.declared.ann_id.AnnId.{AnnId}
 use Rattle.mark_base.specs.declared.arguments.Arg.{Arg}
 use Rattle.mark_base.specs.declared.places.TypeId.{TypeId}
 use Rattle.mark_base.specs.AnnIds.{is_canonical}
 use Rattle.annotation_conf.specs.Configurations.{Configuration}
 use Rattle.annotation_conf.specs.declared.role.Role.{Role}
 use Rattle.annotation_conf.specs.Lookups.{roles_of, role_named}
-use Rattle.annotation_conf.specs.Sound.{IsSound, IsRole, AreRoles}
+use Rattle.annotation_conf.specs.Sound.{IsSound, IsRole}
 use Rattle.annotation_conf.proofs.Written.{IsWord}
 use Rattle.annotation_conf.proofs.WrittenLists.{none-append}
 use Rattle.layer_core.specs.Rules.{filled}
 use Rattle.ann_reader.specs.Roles.{role_read, role_before, role_before_number, digit_counts}
-use Rattle.ann_reader.specs.Words.{id_read, all_of}
-use Rattle.ann_reader.specs.Forms.{Pair, pair_read, pairs_read}
-use Rattle.ann_reader.specs.Marks.{arg_by, arg_of, args_of}
+use Rattle.ann_reader.specs.Forms.{Pair, pairs_read}
+use Rattle.ann_reader.specs.Marks.{arg_by, args_of}
 use Rattle.ann_writer.specs.Words.{argument_words, id_word, pair_word, reads_as, role_name_at, role_spelling}
 use Rattle.ann_writer.proofs.ConfWords.{are_roles, equal_words, is_word}
-use Rattle.ann_writer.proofs.NameFacts.{IsRoleName, role_facts}
+use Rattle.ann_writer.proofs.NameFacts.{role_facts}
 use Rattle.ann_writer.proofs.NumberWords.{id_read_back}
 use Rattle.ann_writer.proofs.PlainWords.{IsPlain, parts, name_plain, name_colon, plain-append, spelling_plain, digits_none, digit_parts}
 use Rattle.ann_writer.proofs.FieldWords.{pair_read_back}

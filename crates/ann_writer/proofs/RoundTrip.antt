@@ -1,10 +1,10 @@
 -- The written lines of a layer are an .ann file of that layer.
-use Rattle.std.proofs.Common.{◌≡◌, refl, sym, ap, ap₂, ◌∙◌, subst, ℕ, zero, suc, ◌+◌, ◌<◌, ◌≤◌, Bool, true, false, ◌||◌, List, [], ◌∷◌, ◌++◌, map, append-nil, append_assoc, codes, arith, IsUtf8, encode_utf8_all, Option, Some, None, is_some, length, lit<}
+use Rattle.std.proofs.Common.{◌≡◌, refl, sym, ap, ap₂, ◌∙◌, subst, ℕ, ◌+◌, ◌≤◌, Bool, true, false, ◌||◌, List, [], ◌∷◌, ◌++◌, map, append-nil, append_assoc, codes, arith, IsUtf8, encode_utf8_all, Some, None, length, lit<}
 use Rattle.std.proofs.lemmas.Bool.{true≢false}
 use Rattle.std.proofs.lemmas.Grind.{flat_map-append}
 use Rattle.std.specs.Option.{option_map_or}
-use Rattle.std.specs.Ordering.{nat_cmp, eq_by_cmp}
-use Rattle.std.specs.List.{AllByRecursion, list_any, flat_map, filter_map, cons_option}
+use Rattle.std.specs.Ordering.{nat_cmp}
+use Rattle.std.specs.List.{AllByRecursion, list_any, flat_map, filter_map}
 use Rattle.std.specs.FinMap as finite
 use Rattle.std.specs.FinMap.{entries_sorted, contains_key-keys}
 use Rattle.mark_base.specs.declared.ann_id.AnnId.{AnnId}
@@ -23,25 +23,24 @@ use Rattle.layer_model.specs.declared.normal.Normal.{Normal}
 use Rattle.layer_model.specs.declared.note.Note.{Note}
 use Rattle.layer_model.specs.declared.class.Class.{Class}
 use Rattle.layer_model.specs.Annotations.{Annotations}
-use Rattle.layer_model.specs.Layers.{has, has_number}
+use Rattle.layer_model.specs.Layers.{has_number}
 use Rattle.layer_model.specs.Numbers.{NumbersFit}
 use Rattle.layer_core.specs.Ids.{id_at}
 use Rattle.layer_core.specs.PairRules.{is_id}
 use Rattle.layer_core.specs.WellFormed.{IsWellFormed}
-use Rattle.layer_core.proofs.PlaceLemmas.{along, entries_found}
+use Rattle.layer_core.proofs.PlaceLemmas.{entries_found}
 use Rattle.ann_reader.specs.Lines as file
 use Rattle.ann_reader.specs.Lines.{Line}
 use Rattle.ann_reader.specs.Forms.{form_of}
 use Rattle.ann_reader.specs.LineFaults.{is_twice}
-use Rattle.ann_reader.specs.Marks.{Said}
 use Rattle.ann_reader.specs.AnnFiles.{Spells, is_line_of, said_in, classes_of, IsAnn}
-use Rattle.ann_writer.specs.Words.{id_word, frags_word, pair_word, argument_words, line_of, line_with_text}
+use Rattle.ann_writer.specs.Words.{id_word, frags_word, pair_word, argument_words}
 use Rattle.ann_writer.specs.AnnOf.{relation_role_at, attribute_name_at, value_words, span_line, event_line, relation_line, class_line, attribute_line, normal_line, note_line, lines_of, ann_of}
 use Rattle.ann_writer.specs.Writable.{IsOfProgram}
 use Rattle.ann_writer.proofs.LineForms.{body, body_with_text, line_is, line_with_text_is}
 use Rattle.ann_writer.proofs.MarkLines.{IsHeld, IsMarkLine, span_said, event_said, relation_said, attribute_said, normal_said, note_said}
 use Rattle.ann_writer.proofs.ClassLines.{IsClassLine, said_class, classes_said, classes_again}
-use Rattle.ann_writer.proofs.FileRows.{Row, IsRow, AreRows, ended, numbered, lines_are, rows_spell, rows_said, rows_have, Rise, IsBelow, rows_once, mark_rows, base, rows_rise, rows_below, rise-append, small_entries, keys_own}
+use Rattle.ann_writer.proofs.FileRows.{Row, IsRow, AreRows, ended, numbered, lines_are, rows_spell, rows_said, rows_have, Rise, rows_once, mark_rows, base, rows_rise, rows_below, rise-append, small_entries, keys_own}
 
 -- ---- the lines without their line feeds
 

@@ -1,10 +1,10 @@
 -- The third field of a line: a reference text, or the text of a normalization or a note.
-use Rattle.std.proofs.Common.{◌≡◌, refl, sym, ap, ap₂, ◌∙◌, subst, ℕ, zero, suc, ◌-◌, ◌<◌, ◌≤◌, Bool, true, false, cond, not, ◌||◌, ◌&&◌, ◌==◌, List, [], ◌∷◌, ◌++◌, length, map, take, drop, arith, chars, IsUtf8, encode_utf8_all}
+use Rattle.std.proofs.Common.{◌≡◌, refl, sym, ap, ap₂, ◌∙◌, subst, ℕ, zero, suc, ◌-◌, ◌≤◌, Bool, true, false, cond, not, ◌||◌, ◌&&◌, ◌==◌, List, [], ◌∷◌, length, map, take, drop, arith, chars, IsUtf8, encode_utf8_all}
 use Rattle.std.proofs.lemmas.Bool.{or_parts, or_from, and_parts, ne_eqb, true≢false}
 use Rattle.std.proofs.lemmas.Str.{chars-encodes, scalars-chars}
 use lib.Utf8.{scalar, scalars}
 use Rattle.std.specs.Str.{NonePass}
-use Rattle.std.specs.List.{AllByRecursion, join_with_byte, list_any}
+use Rattle.std.specs.List.{AllByRecursion, list_any}
 use Rattle.mark_base.specs.declared.fragments.Frag.{Frag}
 use Rattle.char_documents.specs.Texts.{covered, shown, reference_text}
 use Rattle.annotation_conf.proofs.WrittenChoices.{none_joined}

@@ -1,5 +1,5 @@
 -- A well-formed layer can be written.
-use Rattle.std.proofs.Common.{◌≡◌, ℕ, ◌<◌, ◌≤◌, zero, suc, Bool, true, false, not, nat_lt, nat_le, ◌&&◌, ◌||◌, List, [], ◌∷◌, length, Option, Some, None, refl, sym, ◌∙◌, ap, arith, tests, le_refl}
+use Rattle.std.proofs.Common.{◌≡◌, ℕ, ◌<◌, ◌≤◌, zero, suc, Bool, true, false, not, nat_lt, nat_le, List, [], ◌∷◌, length, Some, None, refl, sym, ◌∙◌, arith, tests, le_refl}
 use Rattle.std.proofs.lemmas.Bool.{and_parts, and_from, or_parts}
 use Rattle.std.specs.List.{All, AllByRecursion, list_any}
 use Rattle.std.specs.FinMap as finite
@@ -7,7 +7,7 @@ use Rattle.std.specs.Ordering.{nat_cmp}
 use Rattle.mark_base.specs.declared.ann_id.Kind.TheVariants as letter
 use Rattle.mark_base.specs.declared.arguments.Arg.{Arg}
 use Rattle.mark_base.specs.declared.fragments.Frag.{Frag}
-use Rattle.char_documents.specs.Texts.{all_lie_in, lies_in}
+use Rattle.char_documents.specs.Texts.{all_lie_in}
 use Rattle.annotation_conf.specs.Configurations.{Configuration}
 use Rattle.annotation_conf.specs.Lookups.{roles_of}
 use Rattle.overlap_rules.specs.Overlaps.{are_ascending, last_end}
@@ -15,8 +15,6 @@ use Rattle.layer_model.specs.declared.mark.Mark.TheVariants as marked
 use Rattle.layer_model.specs.declared.rule.Rule.{Rule}
 use Rattle.layer_model.specs.declared.flaw.FlawPlace.{FlawPlace}
 use Rattle.layer_model.specs.declared.flaw.FlawPlace.TheVariants as at
-use Rattle.layer_model.specs.declared.span.Span.{Span}
-use Rattle.layer_model.specs.declared.event.Event.{Event}
 use Rattle.layer_model.specs.Annotations.{Annotations}
 use Rattle.layer_model.specs.Layers.{IsLayer}
 use Rattle.layer_core.specs.Ids.{id_at}
@@ -24,7 +22,7 @@ use Rattle.layer_core.specs.Rules.{where_so, bad_fragments, out_of_text, unknown
 use Rattle.layer_core.specs.SpanRules.{are_fragments}
 use Rattle.layer_core.specs.WellFormed.{IsWellFormed, no_class}
 use Rattle.layer_core.proofs.PlaceLemmas.{along, at_entry, entries_found}
-use Rattle.ann_writer.specs.Writable.{HasRoles, IsWritable, LiesIn}
+use Rattle.ann_writer.specs.Writable.{IsWritable}
 
 -- ---- fragments within a text
 

@@ -1,5 +1,5 @@
 -- Why there is no desk where a configuration gives it no types.
-use Rattle.std.proofs.Common.{◌≡◌, ℕ, List, Option, refl, inl, inr}
+use Rattle.std.proofs.Common.{ℕ, List, Option, refl, inl, inr}
 use Rattle.annotation_conf.specs.Configurations.{Configuration}
 use Rattle.annotation_cli.specs.declared.trouble.Trouble.{Trouble}
 use Rattle.annotation_cli.specs.declared.trouble.Trouble.TheVariants as trouble

@@ -1,5 +1,5 @@
 -- What a run of the program does, by its words.
-use Rattle.std.specs.Prelude.{◌≡◌, ℕ, ◌⊎◌, Bool, true, false, List, Option, Some, None, Result, Ok, Err}
+use Rattle.std.specs.Prelude.{◌≡◌, ℕ, Bool, true, false, List, Option, Some, None, Result, Err}
 use Rattle.annotation_cli.specs.declared.trouble.Trouble.{Trouble}
 use Rattle.annotation_cli.specs.declared.trouble.Trouble.TheVariants.{Usage}
 use Rattle.annotation_cli.specs.Asked.{TryFiles, VerifyFiles, try_words, verify_words}

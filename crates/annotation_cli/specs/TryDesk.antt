@@ -1,5 +1,5 @@
 -- What `try CONF TEXT` does: it serves the console from a desk on two files.
-use Rattle.std.specs.Prelude.{◌≡◌, ℕ, ◌⊎◌, ◌==◌, ◌&&◌, Bool, nat_le, List, [], length, map, if◌then◌else◌, Option, Some, None, Result, Ok, Err, ⊤}
+use Rattle.std.specs.Prelude.{◌≡◌, ℕ, ◌⊎◌, ◌==◌, ◌&&◌, nat_le, List, [], length, map, if◌then◌else◌, Option, Some, None, Result, Ok, Err, ⊤}
 use Rattle.std.specs.List.{list_all}
 use Rattle.annotation_conf.specs.Configurations.{Configuration}
 use Rattle.annotation_http.specs.Desk.{DeskState}

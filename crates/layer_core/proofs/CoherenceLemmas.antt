@@ -1,7 +1,6 @@
 -- A well-formed layer is coherent: what its annotations name is there and of a letter that fits, no chain of events is too deep, and no two are alike.
 use Rattle.std.proofs.Common.{◌≡◌, ℕ, ◌<◌, ◌≤◌, min, zero, suc, Bool, true, false, not, ◌&&◌, ◌||◌, ◌==◌, nat_lt, cond, eq-eqb, ne_eqb, List, [], ◌∷◌, ◌++◌, map, length, slice_get, refl, sym, ◌∙◌, ap, subst, Option, Some, None, arith}
 use Rattle.std.proofs.lemmas.Bool.{eqb-true, lt-ltb}
-use Rattle.std.specs.Bool.{⊤}
 use Rattle.std.specs.Option.{option_or, option_map, option_map_or, option_and_then, is_some}
 use Rattle.std.specs.List.{AllByRecursion, count_by, find, list_all, list_any, range_with_len}
 use Rattle.std.specs.Ordering.{nat_cmp}
@@ -27,17 +26,16 @@ use Rattle.layer_model.specs.declared.rule.Rule.TheVariants.{NoSuch, WrongKind, 
 use Rattle.layer_model.specs.declared.flaw.FlawPlace.{FlawPlace}
 use Rattle.layer_model.specs.declared.flaw.FlawPlace.TheVariants as at
 use Rattle.layer_model.specs.Annotations.{Annotations}
-use Rattle.layer_model.specs.Classes.{letter_place, rank}
-use Rattle.layer_model.specs.Layers.{IsLayer, attribute_of, has, mark_at, mark_of}
-use Rattle.layer_model.specs.Numbers.{NumbersFit}
+use Rattle.layer_model.specs.Classes.{rank}
+use Rattle.layer_model.specs.Layers.{IsLayer, has, mark_at, mark_of}
 use Rattle.layer_model.specs.Span.{same_fragments}
 use Rattle.layer_model.specs.Coherent as whole
 use Rattle.layer_model.specs.Coherent.{begins_chain as chain_of}
 use Rattle.layer_core.specs.Ids.{id_at, ids_of}
-use Rattle.layer_core.specs.Places.{by_place, first_place, places}
+use Rattle.layer_core.specs.Places.{by_place, first_place}
 use Rattle.layer_core.specs.Targets.{is_argument, is_attribute_target, is_member, is_normal_target, is_note_target}
 use Rattle.layer_core.specs.Rules.{where_so, named_by, first_missing, Wanted, argument, member, first_unwanted, wanted_by}
-use Rattle.layer_core.specs.PairRules.{begins_chain, is_arg, is_event_id, letter_is_event, lower_pair, same_attributes, same_bag, same_events, same_relations, same_spans, same_span, same_event, same_relation, attribute_there, too_deep}
+use Rattle.layer_core.specs.PairRules.{begins_chain, is_arg, is_event_id, letter_is_event, lower_pair, same_attributes, same_bag, same_events, same_relations, same_spans, attribute_there, too_deep}
 use Rattle.layer_core.specs.WellFormed.{IsWellFormed, Never}
 use Rattle.layer_core.proofs.LawLemmas.{id_at-id, never}
 

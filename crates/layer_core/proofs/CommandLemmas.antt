@@ -1,8 +1,6 @@
 -- A command makes a well-formed layer of a well-formed one.
-use Rattle.std.proofs.Common.{◌≡◌, ℕ, Bool, true, false, cond, List, Option, Some, None, Ok, Err, Result, option_map, option_and_then, nat_lt, refl}
+use Rattle.std.proofs.Common.{◌≡◌, ℕ, Bool, true, false, cond, Option, Some, None, option_map, option_and_then, nat_lt, refl}
 use Rattle.std.specs.Prelude.{IfOk}
-use Rattle.std.specs.Option.{option_map_or}
-use Rattle.mark_base.specs.declared.ann_id.AnnId.{AnnId}
 use Rattle.annotation_conf.specs.Configurations.{Configuration}
 use Rattle.layer_model.specs.declared.rule.Rule.{Rule}
 use Rattle.layer_model.specs.declared.flaw.Flaw.{Flaw}
@@ -11,7 +9,7 @@ use Rattle.layer_model.specs.Rules.{number_of}
 use Rattle.layer_core.specs.declared.command.Command.{Command}
 use Rattle.layer_core.specs.WellFormed.{IsWellFormed, least_flaw}
 use Rattle.layer_core.specs.Drafts.{Draft, draft}
-use Rattle.layer_core.specs.Commands.{lower_rule, first_broken, own_rules, told_of, draft_rule, refusal, applied_of, answer_of, apply, Applied}
+use Rattle.layer_core.specs.Commands.{lower_rule, first_broken, own_rules, draft_rule, refusal, applied_of, answer_of, apply, Applied}
 use Rattle.layer_core.proofs.LawLemmas.{unflawed_is_well_formed}
 
 some_none : {X : Type 0} {x : X} → Some x ≡ None → ⊥

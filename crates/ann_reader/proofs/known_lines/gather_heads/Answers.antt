@@ -1,4 +1,4 @@
-use Rattle.std.proofs.Common.{◌≡◌, ◌<◌, ◌≤◌, ◌+◌, ◌++◌, ◌∷◌, [], ℕ, sym, ◌∙◌, ap, subst, length, arith, map, take, get_or, List, Some, None, nat_cmp, is_some}
+use Rattle.std.proofs.Common.{◌≡◌, ◌<◌, ◌≤◌, ◌+◌, ◌++◌, ◌∷◌, [], ℕ, sym, ◌∙◌, ap, subst, length, arith, map, take, get_or, List, Some, nat_cmp, is_some}
 use Rattle.std.specs.BTreeMap.{BTreeMap, get, Updates}
 use Rattle.ann_reader.specs.declared.line.Line.{Line as LineValue}
 use Rattle.ann_reader.specs.Lines.{Line}

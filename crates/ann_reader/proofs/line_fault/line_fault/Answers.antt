@@ -1,4 +1,4 @@
-use Rattle.std.proofs.Common.{◌≡◌, sym, ◌∙◌, ap, Some, None}
+use Rattle.std.proofs.Common.{sym, ◌∙◌, ap, Some, None}
 use Rattle.std.specs.Option.{option_map}
 use Rattle.ann_reader.specs.declared.ann_fault.AnnWhat.TheVariants.{Broken}
 use Rattle.ann_reader.specs.FormShows.{seen_form}

@@ -3,7 +3,6 @@ use Rattle.std.proofs.Math.Bridge.{le_prop}
 use Rattle.mark_base.specs.declared.ann_id.AnnId.{AnnId}
 use Rattle.mark_base.specs.declared.places.TypeId.{TypeId}
 use Rattle.mark_base.specs.declared.arguments.Arg.{Arg}
-use Rattle.layer_model.specs.declared.mark.Mark.{Mark}
 use Rattle.layer_model.specs.declared.mark.Mark.TheVariants.{Event}
 use Rattle.ann_reader.specs.Marks.{event_by}
 use Rattle.ann_reader.proofs.marks.event_by.Goals as goal

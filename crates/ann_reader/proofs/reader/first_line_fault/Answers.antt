@@ -1,4 +1,4 @@
-use Rattle.std.proofs.Common.{◌≡◌, ◌<◌, ◌≤◌, ◌+◌, ◌++◌, [], ◌∷◌, ℕ, refl, sym, ◌∙◌, ap, subst, length, arith, map, take, drop, get_or, List, Option, Some, None, slice_index, nat_cmp, count_by, ◌==◌}
+use Rattle.std.proofs.Common.{◌≡◌, ◌<◌, ◌≤◌, ◌+◌, ◌++◌, [], ◌∷◌, ℕ, sym, ◌∙◌, ap, subst, length, arith, map, take, drop, get_or, List, Some, slice_index, nat_cmp, ◌==◌}
 use Rattle.std.specs.Prelude.{unwrap_or}
 use Rattle.std.specs.BTreeMap.{BTreeMap, get, is_at, Updates}
 use Rattle.std.specs.Map.{lookup}
@@ -7,7 +7,7 @@ use Rattle.std.proofs.lemmas.List.Sums.{count_by-le-length}
 use Rattle.ann_reader.specs.declared.line.Line.{Line as LineValue}
 use Rattle.ann_reader.specs.Lines.{Line}
 use Rattle.ann_reader.specs.LineShows.{seen_line}
-use Rattle.ann_reader.specs.LineFaults.{first_line_fault, counted_byte, count_like, line_fault}
+use Rattle.ann_reader.specs.LineFaults.{first_line_fault, counted_byte, count_like}
 use Rattle.ann_reader.specs.Counts.{CountsLines}
 use Rattle.ann_reader.proofs.StepLemmas.{taken, left_over, none_left, counts_more, front_few}
 use Rattle.ann_reader.proofs.PassLemmas.{fault_here, fault_later}

@@ -1,9 +1,9 @@
-use Rattle.std.proofs.Common.{◌≡◌, ◌<◌, ◌≤◌, ◌+◌, [], ◌∷◌, ℕ, sym, ◌∙◌, ap, subst, length, arith, map, drop, get_or, List}
+use Rattle.std.proofs.Common.{◌≡◌, ◌<◌, ◌≤◌, ◌+◌, [], ℕ, sym, ◌∙◌, ap, subst, length, arith, map, drop, get_or}
 use Rattle.std.specs.List.{fold}
 use Rattle.layer_model.specs.Annotations.{Annotations}
 use Rattle.ann_reader.specs.declared.line.Line.{Line as LineValue}
 use Rattle.ann_reader.specs.LineShows.{seen_line}
-use Rattle.ann_reader.specs.FormShows.{NamesSome, seen_form}
+use Rattle.ann_reader.specs.FormShows.{NamesSome}
 use Rattle.ann_reader.specs.Forms.{form_of}
 use Rattle.ann_reader.specs.AnnFaults.{with_form, with_line}
 use Rattle.ann_reader.proofs.FormFacts.{names_some}

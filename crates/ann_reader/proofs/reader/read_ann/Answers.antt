@@ -1,4 +1,4 @@
-use Rattle.std.proofs.Common.{◌≡◌, ◌∙◌, ◌<◌, ℕ, length, arith, subst, IfOk, IfErr, OnOk, None, IsUtf8}
+use Rattle.std.proofs.Common.{◌≡◌, ◌∙◌, ◌<◌, length, arith, subst, IfOk, IfErr, OnOk, None, IsUtf8}
 use Rattle.std.specs.Str.{valid_up_to}
 use Rattle.ann_reader.specs.Lines.{lines_of}
 use Rattle.ann_reader.specs.AnnFaults.{lines_fault, layer_of}

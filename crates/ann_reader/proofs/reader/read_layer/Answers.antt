@@ -1,6 +1,5 @@
-use Rattle.std.proofs.Common.{◌≡◌, ◌∙◌, sym, ap, subst, List, length, None}
+use Rattle.std.proofs.Common.{◌∙◌, sym, ap, length}
 use Rattle.std.specs.Option.{option_map}
-use Rattle.ann_reader.specs.Lines.{Line}
 use Rattle.ann_reader.specs.AnnFaults.{layer_fault, first_text_fault, layer_of}
 use Rattle.ann_reader.specs.FaultShows.{seen_fault}
 use Rattle.ann_reader.proofs.AnswerLemmas.{first_told, later_told, none_told}

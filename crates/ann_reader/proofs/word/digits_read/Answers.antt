@@ -1,5 +1,3 @@
-use Rattle.std.proofs.Common.{rules, ◌≡◌, ◌∙◌, sym, true}
-use Rattle.mark_base.specs.AnnIds.{is_canonical}
 use Rattle.ann_reader.proofs.DigitLemmas.{canonical_utf8, canonical_parsed}
 use Rattle.ann_reader.proofs.word.digits_read.Goals as goal
 

@@ -1,4 +1,4 @@
-use Rattle.std.proofs.Common.{◌≡◌, ◌<◌, ◌+◌, length, sym, ◌∙◌, ap, subst, arith, take, get_or, length-set, slice_index, slice_set}
+use Rattle.std.proofs.Common.{◌≡◌, ◌<◌, ◌+◌, length, sym, ◌∙◌, ap, subst, arith, take, length-set, slice_index, slice_set}
 use Rattle.mark_base.specs.declared.arguments.Arg.{Arg}
 use Rattle.annotation_conf.specs.Lookups.{roles_of}
 use Rattle.layer_core.specs.Rules.{filled}

@@ -1,4 +1,4 @@
-use Rattle.std.proofs.Common.{◌++◌, [], sym, ◌∙◌, ap, append-nil, string_bytes, rules, subst}
+use Rattle.std.proofs.Common.{◌++◌, sym, ◌∙◌, ap, append-nil, string_bytes, rules, subst}
 use Rattle.std.specs.List.{flat_map, AllByRecursion}
 use Rattle.layer_model.proofs.Maps.{same_list}
 use Rattle.ann_writer.proofs.MarkSteps.{lines_on, rest_can, told_on}
