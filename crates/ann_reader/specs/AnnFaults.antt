@@ -52,6 +52,7 @@ layer_of conf lines = fold (with_line conf) no_marks lines
 abbrev pub brings_some : Class → Said → Bool
 brings_some class said = said.kind == class.kind.n && list_any (λ id. is_among id class.members) said.members
 
+-- a line says that members of the class are one
 abbrev pub brings : Configuration → Class → Line → Bool
 brings conf class line = option_map_or (brings_some class) (said_of conf (form_of line.bytes)) false
 

@@ -29,6 +29,7 @@ has_byte c word = list_any (λ b. b == c) word
 abbrev pub before_byte : ℕ → List ℕ → List ℕ
 before_byte c word = before_first (λ b. b == c) word
 
+-- what stands behind the first such byte
 abbrev pub behind_byte : ℕ → List ℕ → List ℕ
 behind_byte c word = after_first (λ b. b == c) word
 
@@ -47,6 +48,7 @@ frags_read bytes = all_of (map (λ piece. frag_read (words_of piece)) (slice_spl
 
 -- ---- T: a type, fragments, and a text
 
+-- by the words of the second field, its fragments, and the text
 abbrev pub text_with : List ℕ → List (List ℕ) → Option (List Frag) → List ℕ → Form
 text_with first (kind ∷ _) (Some frags) text = TextForm first kind frags text
 text_with first _ _ text = BadForm
@@ -57,61 +59,74 @@ text_form first second text = text_with first (words_of second) (frags_read (beh
 
 -- ---- E: a type with its trigger, and any number of arguments
 
+-- by the pairs of the second field, of which the first is the type with its trigger
 abbrev pub event_with : List ℕ → Option (List Pair) → Form
 event_with first (Some (own ∷ pairs)) = EventForm first own.role own.target pairs
 event_with first _ = BadForm
 
+-- by the second field
 abbrev pub event_form : List ℕ → List ℕ → Form
 event_form first second = event_with first (pairs_read (words_of second))
 
 -- ---- R: a type and two arguments
 
+-- by the type and the pairs behind it, which are two
 abbrev pub relation_with : List ℕ → List ℕ → Option (List Pair) → Form
 relation_with first kind (Some (a ∷ b ∷ [])) = RelationForm first kind a b
 relation_with first kind _ = BadForm
 
+-- by the words of the second field
 abbrev pub relation_by : List ℕ → List (List ℕ) → Form
 relation_by first (kind ∷ words) = relation_with first kind (pairs_read words)
 relation_by first [] = BadForm
 
+-- by the second field
 abbrev pub relation_form : List ℕ → List ℕ → Form
 relation_form first second = relation_by first (words_of second)
 
 -- ---- A and M: a type, a target, and perhaps a value
 
+-- by the words of the second field
 abbrev pub attribute_by : List ℕ → List (List ℕ) → Form
 attribute_by first (kind ∷ target ∷ []) = AttributeForm first kind target None
 attribute_by first (kind ∷ target ∷ value ∷ []) = AttributeForm first kind target (Some value)
 attribute_by first _ = BadForm
 
+-- by the second field
 abbrev pub attribute_form : List ℕ → List ℕ → Form
 attribute_form first second = attribute_by first (words_of second)
 
 -- ---- `*`: a type and members
 
+-- by the words of the second field; the first field is `*` alone
 abbrev pub class_by : List ℕ → List (List ℕ) → Form
 class_by first (kind ∷ member ∷ members) = if bytes_eq first (42 ∷ []) then ClassForm kind (member ∷ members) else BadForm
 class_by first _ = BadForm
 
+-- by the second field
 abbrev pub class_form : List ℕ → List ℕ → Form
 class_form first second = class_by first (words_of second)
 
 -- ---- N: the word `Reference`, a target, and an entry of a store, split at its first `:`; a text, which may be absent
 
+-- by the words of the second field, and the text
 abbrev pub normal_by : List ℕ → List (List ℕ) → List ℕ → Form
 normal_by first (word ∷ target ∷ entry ∷ []) text =
     if bytes_eq word (codes "Reference") && has_byte 58 entry then NormalForm first target (before_byte 58 entry) (behind_byte 58 entry) text else BadForm
 normal_by first _ text = BadForm
 
+-- by the second field and the text
 abbrev pub normal_form : List ℕ → List ℕ → List ℕ → Form
 normal_form first second text = normal_by first (words_of second) text
 
 -- ---- #: a type, a target, and a text
 
+-- by the words of the second field, and the text
 abbrev pub note_by : List ℕ → List (List ℕ) → List ℕ → Form
 note_by first (kind ∷ target ∷ []) text = NoteForm first kind target text
 note_by first _ text = BadForm
 
+-- by the second field and the text
 abbrev pub note_form : List ℕ → List ℕ → List ℕ → Form
 note_form first second text = note_by first (words_of second) text
 

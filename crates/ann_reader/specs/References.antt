@@ -21,6 +21,7 @@ pub record Reference : Type 0 where
   pub letters : Letters
   pub word : List ℕ
 
+-- a word where only these letters may stand
 abbrev pub of_letters : Letters → List ℕ → Reference
 of_letters letters word = record { letters = letters; word = word }
 
