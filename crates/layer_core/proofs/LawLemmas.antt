@@ -104,7 +104,7 @@ of_classes P layer all =
     back P (places_of layer letter.Note) _ (back P (places_of layer letter.Normal) _ (back P (places_of layer letter.Legacy) _ (back P (places_of layer letter.Attribute) _
     (back P (places_of layer letter.Relation) _ (back P (places_of layer letter.Event) _ (back P (places_of layer letter.Text) _ (subst (AllByRecursion P) (by_letters layer) all)))))))
 
-same_number : (m n : ℕ) → eq_by_cmp nat_cmp m n ≡ true → n ≡ m
+pub same_number : (m n : ℕ) → eq_by_cmp nat_cmp m n ≡ true → n ≡ m
 same_number m n e =
     elim (nat_cmp m n) as (λ r. r ≡ nat_cmp m n → is_eq r ≡ true → n ≡ m) [
       | Less ↦ λ _ h. absurd (let f : false ≡ true = h in cc)
@@ -125,7 +125,7 @@ wrapped wrap None mark e = absurd (some_none e)
 wrapped wrap (Some v) mark e = refl
 
 -- a mark that stands has its number among those of its letter
-stands : (layer : Annotations) (kind : Kind) (n : ℕ) (mark : Mark) → mark_of layer kind n ≡ Some mark → list_any (eq_by_cmp nat_cmp n) (numbers layer kind) ≡ true
+pub stands : (layer : Annotations) (kind : Kind) (n : ℕ) (mark : Mark) → mark_of layer kind n ≡ Some mark → list_any (eq_by_cmp nat_cmp n) (numbers layer kind) ≡ true
 stands layer letter.Text n mark e = sym (contains_key-keys layer.spans n) ∙ wrapped marked.Span (finite.get layer.spans n) mark e
 stands layer letter.Event n mark e = sym (contains_key-keys layer.events n) ∙ wrapped marked.Event (finite.get layer.events n) mark e
 stands layer letter.Relation n mark e = sym (contains_key-keys layer.relations n) ∙ wrapped marked.Relation (finite.get layer.relations n) mark e
@@ -134,7 +134,7 @@ stands layer letter.Legacy n mark e = sym (contains_key-keys layer.legacy n) ∙
 stands layer letter.Normal n mark e = sym (contains_key-keys layer.normals n) ∙ wrapped marked.Normal (finite.get layer.normals n) mark e
 stands layer letter.Note n mark e = sym (contains_key-keys layer.notes n) ∙ wrapped marked.Note (finite.get layer.notes n) mark e
 
-either : (a b : ℕ) → a ≤ b → (a ≡ b) ⊎ (a < b)
+pub either : (a b : ℕ) → a ≤ b → (a ≡ b) ⊎ (a < b)
 either a b h =
     elim (nat_cmp a b) as (λ r. r ≡ nat_cmp a b → (a ≡ b) ⊎ (a < b)) [
       | Less ↦ λ is. inr (ranked a b Less is)

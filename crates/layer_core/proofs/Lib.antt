@@ -19,3 +19,10 @@ mod SameRelationLemmas
 mod SameSpanLemmas
 mod WalkLemmas
 mod CommandLemmas
+mod DeskLemmas
+mod FallLemmas
+mod AnyLemmas
+mod OwnLemmas
+mod PairedLemmas
+mod TellLemmas
+mod WorkLemmas

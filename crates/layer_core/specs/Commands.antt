@@ -1,5 +1,5 @@
 -- What a command does to a layer: the layer that it makes, or the first rule that it breaks.
-use Rattle.std.specs.Prelude.{ℕ, ◌&&◌, Bool, false, not, length, List, [], ◌∷◌, map, nat_lt, Option, Some, None, is_none, option_map, option_and_then, find, Result, Ok, Err, if◌then◌else◌}
+use Rattle.std.specs.Prelude.{ℕ, ◌==◌, ◌&&◌, Bool, true, false, not, length, List, [], ◌∷◌, map, nat_lt, Option, Some, None, is_none, option_map, option_and_then, find, Result, Ok, Err, if◌then◌else◌}
 use Rattle.std.specs.Option.{option_or, option_map_or}
 use Rattle.mark_base.specs.declared.ann_id.AnnId.{AnnId}
 use Rattle.mark_base.specs.declared.ann_id.Kind.{Kind}
@@ -20,7 +20,7 @@ use Rattle.layer_core.specs.Targets.{is_attribute_target, type_of}
 use Rattle.layer_core.specs.Rules.{where_so, first_missing, first_unwanted, Wanted, argument, trigger, member}
 use Rattle.layer_core.specs.PairRules.{is_id, same_spans, same_events, same_relations, same_attributes, refused_overlap}
 use Rattle.layer_core.specs.WellFormed.{least_flaw}
-use Rattle.layer_core.specs.Fields.{event_named, undeclared, barred, no_equivalence, of_letters, is_span_letter, is_event_letter, is_attribute_letter, in_use, trigger_in_use, used_up, roles_undeclared, event_type, no_such_argument, value_of, value_refused, attribute_on, attribute_same, target_refused, members_refused, not_in_class}
+use Rattle.layer_core.specs.Fields.{event_named, undeclared, barred, no_equivalence, of_letters, is_span_letter, is_event_letter, is_attribute_letter, in_use, trigger_in_use, used_up, roles_undeclared, event_type, no_such_argument, Valued, value_of, value_refused, attribute_on, attribute_same, target_refused, members_refused, not_in_class}
 use Rattle.layer_core.specs.Drafts.{Draft, draft, is_note_on, is_reference_to, lowest}
 
 -- the target of an attribute
@@ -76,11 +76,13 @@ abbrev pub first_broken : List (Option Rule) → Option Rule
 first_broken [] = None
 first_broken (broken ∷ more) = option_or broken (first_broken more)
 
+-- another annotation than the one of an ID makes a pair with a mark
+abbrev pub other_than : (Mark → Mark → Bool) → Annotations → AnnId → Mark → AnnId → Bool
+other_than pairs layer id mark other = not (is_id id other) && option_map_or (pairs mark) (mark_at layer other) false
+
 -- the lowest other annotation that makes a pair with one, or else the one that was told
 abbrev pub other_of : (Mark → Mark → Bool) → Annotations → AnnId → AnnId → AnnId
-other_of pairs layer id told =
-    option_map_or (λ other. other)
-    (option_and_then (λ mark. find (λ other. not (is_id id other) && option_map_or (pairs mark) (mark_at layer other) false) (ids_of layer)) (mark_at layer id)) told
+other_of pairs layer id told = option_map_or (λ other. other) (option_and_then (λ mark. find (other_than pairs layer id mark) (ids_of layer)) (mark_at layer id)) told
 
 -- a rule on pairs carries the lowest annotation that makes a pair with the new or changed one
 abbrev pub told_of : Configuration → Annotations → AnnId → Rule → Rule

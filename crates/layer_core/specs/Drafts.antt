@@ -1,13 +1,16 @@
 -- The layer that a command makes, where its names are declared.
-use Rattle.std.specs.Prelude.{ℕ, ◌+◌, ◌==◌, ◌||◌, ◌&&◌, Bool, true, false, not, List, [], ◌∷◌, ◌++◌, zero, suc, length, map, bytes_eq, Option, Some, None, is_some, option_map, option_and_then, find, filter, unwrap_or, if◌then◌else◌}
-use Rattle.std.specs.Option.{option_map_or}
-use Rattle.std.specs.List.{list_any, range_with_len}
+use Rattle.std.specs.Prelude.{ℕ, ◌+◌, ◌==◌, ◌||◌, ◌&&◌, Bool, true, false, not, List, [], ◌∷◌, ◌++◌, zero, suc, length, map, nat_lt, bytes_eq, Option, Some, None, is_some, option_map, option_and_then, find, filter, unwrap_or, if◌then◌else◌}
+use Rattle.std.specs.Option.{option_or, option_map_or}
+use Rattle.std.specs.List.{list_any, range_with_len, fold}
 use Rattle.std.specs.FinMap as finite
 use Rattle.mark_base.specs.declared.ann_id.AnnId.{AnnId}
 use Rattle.mark_base.specs.declared.ann_id.Kind.{Kind}
 use Rattle.mark_base.specs.declared.ann_id.Kind.TheVariants as letter
+use Rattle.mark_base.specs.declared.places.TypeId.{TypeId}
+use Rattle.mark_base.specs.declared.places.RelId.{RelId}
 use Rattle.mark_base.specs.declared.places.AttrId.{AttrId}
 use Rattle.mark_base.specs.declared.arguments.Arg.{Arg}
+use Rattle.mark_base.specs.declared.named_args.NamedArg.{NamedArg}
 use Rattle.type_hierarchy.specs.TypeTrees.{type_named}
 use Rattle.annotation_conf.specs.Configurations.{Configuration}
 use Rattle.annotation_conf.specs.Lookups.{relation_named, attribute_named}
@@ -15,16 +18,17 @@ use Rattle.layer_model.specs.declared.mark.Mark.{Mark}
 use Rattle.layer_model.specs.declared.mark.Mark.TheVariants.{Span, Event, Relation, Attribute, Normal, Note}
 use Rattle.layer_model.specs.declared.span.Span as span_record
 use Rattle.layer_model.specs.declared.event.Event as event_record
+use Rattle.layer_model.specs.declared.relation.Relation as relation_record
 use Rattle.layer_model.specs.declared.class.Class.{Class}
 use Rattle.layer_model.specs.Annotations.{Annotations}
-use Rattle.layer_model.specs.Layers.{mark_at, with_mark, without, has_number, greatest}
+use Rattle.layer_model.specs.Layers.{count, mark_at, with_mark, without, has_number, greatest}
 use Rattle.layer_model.specs.Classes.{joined, parted}
 use Rattle.layer_core.specs.declared.command.Command.{Command}
 use Rattle.layer_core.specs.declared.command.Command.TheVariants as ask
 use Rattle.layer_core.specs.Ids.{id_at, ids_of, ids_of_letter}
 use Rattle.layer_core.specs.Rules.{named_by}
 use Rattle.layer_core.specs.PairRules.{is_id, is_arg}
-use Rattle.layer_core.specs.Fields.{event_named, is_span_letter, is_event_letter, first_naming, is_in_trigger, args_named, arg_named, Valued, Undeclared, Declared, value_of, attribute_on}
+use Rattle.layer_core.specs.Fields.{event_named, is_span_letter, is_event_letter, is_relation_letter, is_attribute_letter, first_naming, is_in_trigger, args_named, arg_named, Valued, Undeclared, Declared, value_of, attribute_on}
 
 -- a layer that a command makes, the annotation that is new or changed in it, and whether it is new
 pub record Draft : Type 0 where
@@ -32,9 +36,9 @@ pub record Draft : Type 0 where
   pub changed : Option AnnId
   pub is_new : Bool
 
--- the lowest number of a letter from 1 on that no annotation has
+-- the lowest number of a letter from 1 on that no annotation has; one of the first numbers is free, as many as there are annotations and one
 abbrev pub free_number : Annotations → Kind → ℕ
-free_number layer kind = unwrap_or (find (λ number. not (has_number layer kind number)) (range_with_len 1 999999999)) 0
+free_number layer kind = unwrap_or (find (λ number. not (has_number layer kind number)) (range_with_len 1 (count layer kind + 1))) 0
 
 -- the number of a new annotation of a letter: the greatest and one more, or 1; where the greatest number is taken the lowest that is free, though the command is then refused
 abbrev pub new_number : Annotations → Kind → ℕ
@@ -60,6 +64,10 @@ span_of layer id = if is_span_letter id.kind then finite.get layer.spans id.numb
 -- the event of an ID
 abbrev pub event_of : Annotations → AnnId → Option event_record.Event
 event_of layer id = if is_event_letter id.kind then finite.get layer.events id.number else None
+
+-- the relation of an ID
+abbrev pub relation_of : Annotations → AnnId → Option relation_record.Relation
+relation_of layer id = if is_relation_letter id.kind then finite.get layer.relations id.number else None
 
 -- arguments without the first that is another
 abbrev pub without_first : Arg → List Arg → List Arg
@@ -142,7 +150,9 @@ draft conf layer (ask.AddRelation kind first second) =
 draft conf layer (ask.SetAttribute kind target value) =
     option_and_then (λ place. valued_draft (value_of conf place value) (with_attribute layer (record { n = place }) target)) (attribute_named conf kind)
 draft conf layer (ask.ClearAttribute id) = if is_some (first_naming layer id) then None else Some (with_less (gone layer id))
-draft conf layer (ask.Equate kind members) = option_map (λ place. with_less (record layer { classes = joined (record { n = place }) members layer.classes })) (relation_named conf kind)
+draft conf layer (ask.Equate kind members) =
+    if length members == 0 then None
+    else option_map (λ place. with_less (record layer { classes = joined (record { n = place }) members layer.classes })) (relation_named conf kind)
 draft conf layer (ask.Unequate kind id) = option_map (λ place. with_less (record layer { classes = parted place id layer.classes })) (relation_named conf kind)
 draft conf layer (ask.SetNote target kind text) = Some (with_text (is_note_on kind target) layer letter.Note (Note (record { kind = kind; target = target; text = text })))
 draft conf layer (ask.SetReference target store entry text) =

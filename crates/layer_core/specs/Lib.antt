@@ -4,12 +4,16 @@ pub mod Commands
 pub mod Drafts
 pub mod EventKeys
 pub mod Fields
+pub mod Falls
 pub mod FirstSeen
 pub mod Ids
+pub mod Made
 pub mod PairRules
 pub mod Places
 pub mod Rules
 pub mod SpanRules
 pub mod Targets
+pub mod Values
 pub mod Walk
 pub mod WellFormed
+pub mod Works

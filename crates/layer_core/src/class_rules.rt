@@ -46,7 +46,7 @@ fn clashes(conf: &Conf, layer: &Layer, kind: RelId, id: AnnId, others: &[AnnId])
 }
 
 /// Whether some ID stands twice, or two may not be in one class.
-fn are_bad_members(conf: &Conf, layer: &Layer, kind: RelId, ids: &[AnnId]) -> bool
+pub(crate) fn are_bad_members(conf: &Conf, layer: &Layer, kind: RelId, ids: &[AnnId]) -> bool
     ensures { result ≡ are_bad_members conf.now layer.now kind.n ids.now }
 {
     let mut left = ids;

@@ -1,12 +1,16 @@
-//! The rules that a layer keeps: which layers are well-formed for a configuration and a text.
+//! The rules that a layer keeps, and the commands that change a layer within them.
 //!
-//! [`check`] answers Ok exactly for a well-formed [`Layer`](layer_model::Layer), and else its least flaw,
-//! with its place; [`may_commit`] tells the first event that lacks arguments. A [`Command`] is a change that
-//! an annotator asks for; what it does is defined in `specs/Commands.antt`, and no call carries it out yet.
+//! [`check`] answers Ok exactly for a [`Layer`](layer_model::Layer) that is well-formed for a configuration
+//! and a text, and else its least flaw, with its place; [`may_commit`] tells the first event that lacks
+//! arguments. A [`Work`] is a well-formed layer that commands change. [`Work::apply`] carries a [`Command`]
+//! out, or refuses it by the first rule that it breaks and leaves the layer as it was. What each command does
+//! is defined in `specs/Drafts.antt`, and what it breaks in `specs/Commands.antt`.
 //!
 //! ```text
 //! check(alloc, &layer, &doc, &conf)?;
-//! may_commit(&layer, &conf);
+//! let mut work = Work::open(alloc, layer, doc, conf)?;
+//! let done = work.apply(Command::Delete { id })?;
+//! may_commit(work.layer(), conf);
 //! ```
 #![tactic(auto)]
 
@@ -16,13 +20,21 @@ mod command;
 mod command_laws;
 mod commit;
 mod deep;
+mod draft;
+mod drafts;
+mod falling;
+mod finds;
 mod first_seen;
 mod full;
+mod gone;
 mod laws;
 mod layer_check;
 mod mark_rules;
+mod names;
 mod overlaps;
+mod own_rules;
 mod passes;
+mod refusal;
 mod same_attributes;
 mod same_events;
 mod same_relations;
@@ -32,7 +44,10 @@ mod targets;
 #[cfg(test)]
 mod tests;
 mod text_rules;
+mod told;
+mod valued;
 mod walk;
+mod work;
 mod worked_rows;
 
 pub use crate::check_fault::CheckFault;
@@ -41,4 +56,6 @@ pub use crate::command_laws::commands_keep_layers;
 pub use crate::commit::may_commit;
 pub use crate::laws::{unflawed_layers, well_formed_layers_cohere};
 pub use crate::layer_check::check;
+pub use crate::refusal::Refusal;
+pub use crate::work::{Done, Work};
 pub use crate::worked_rows::examples_of_fields;

@@ -5,8 +5,12 @@ ghost use Rattle.layer_model.specs.Layers.{is_of_kind};
 ghost use Rattle.mark_base.specs.declared.ann_id.Kind.{Kind};
 
 mod cases;
+mod commands;
 mod flaws;
+mod outcomes;
 mod rows;
+mod work;
+mod written;
 
 use crate::{check, may_commit};
 use annotation_conf::{Conf, read_conf};

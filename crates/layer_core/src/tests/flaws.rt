@@ -39,7 +39,7 @@ pub fn role_sign(role: RoleAt) -> Sign {
 }
 
 /// What a rule carries.
-fn carried(rule: Rule) -> Sign {
+pub fn carried(rule: Rule) -> Sign {
     match rule {
         Rule::NoSuch(id) => id_sign(id),
         Rule::WrongKind(id) => id_sign(id),
@@ -48,9 +48,11 @@ fn carried(rule: Rule) -> Sign {
         Rule::SameRelation(id) => id_sign(id),
         Rule::AttributeThere(id) => id_sign(id),
         Rule::OverlapRefused(id) => id_sign(id),
+        Rule::InUse(id) => id_sign(id),
         Rule::ArgumentType(role) => role_sign(role),
         Rule::TooMany(role) => role_sign(role),
         Rule::LayerFull(kind) => (u16::from(kind.letter()), 0),
+        Rule::IdsUsedUp(kind) => (u16::from(kind.letter()), 0),
         _ => NOTHING,
     }
 }
@@ -81,7 +83,7 @@ fn sort(word: &str) -> Result<u16, Memory> {
 }
 
 /// What a word of a flaw tells.
-fn sign(word: &str) -> Result<Sign, Memory> {
+pub fn sign(word: &str) -> Result<Sign, Memory> {
     if word == "-" {
         return Ok(NOTHING);
     }

@@ -70,7 +70,8 @@ fn id_at(words: &[&str], place: usize) -> Result<AnnId, Memory> {
     id(word_at(words, place)?)
 }
 
-fn fragment(word: &str) -> Result<Frag, Memory> {
+/// A fragment.
+pub fn fragment(word: &str) -> Result<Frag, Memory> {
     let (start, end) = parts(word)?;
     let start = u32::from(number(start)?);
     let end = u32::from(number(end)?);

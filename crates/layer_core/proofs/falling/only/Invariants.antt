@@ -1,0 +1,7 @@
+use Rattle.std.proofs.Common.{◌≡◌, ◌++◌, drop, map, filter, find, ◌==◌}
+use Rattle.std.specs.List.{list_any, list_all}
+use Rattle.layer_core.specs.PairRules.{is_id}
+use Rattle.layer_core.proofs.falling.only.Given as goal
+
+abbrev pub invariant-loop-id : goal.invariant-loop-id
+invariant-loop-id l = l.found.items ++ filter (is_id l.gone) (drop l.id-index l.ids) ≡ filter (is_id l.gone) l.ids

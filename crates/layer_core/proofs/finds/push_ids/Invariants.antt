@@ -1,0 +1,8 @@
+use Rattle.std.proofs.Common.{◌≡◌, ◌++◌, drop, map, filter, find, ◌==◌}
+use Rattle.std.specs.List.{list_any, list_all}
+use Rattle.std.specs.Map.{keys_of}
+use Rattle.layer_core.specs.Ids.{id_at}
+use Rattle.layer_core.proofs.finds.push_ids.Given as goal
+
+abbrev pub invariant-loop-number : goal.invariant-loop-number
+invariant-loop-number g l = l.ids.items ++ map (id_at l.kind) (keys_of l.number-iterator) ≡ l.initial.ids.items ++ map (id_at l.kind) (keys_of l.marks.entries)

@@ -1,0 +1,10 @@
+use Rattle.std.proofs.Common.{◌≡◌, ◌++◌, drop, map, filter, find, ◌==◌}
+use Rattle.std.specs.List.{list_any, list_all}
+use Rattle.layer_model.specs.Layers.{with_classes}
+use Rattle.layer_core.specs.Drafts.{parted_from}
+use Rattle.layer_core.proofs.gone.part_from.Given as goal
+
+abbrev pub invariant-loop-kind : goal.invariant-loop-kind
+invariant-loop-kind l =
+    with_classes l.layer (parted_from l.id l.layer.classes (map (λ kind. kind.n) (drop l.kind-index l.kinds)))
+    ≡ with_classes l.initial.layer (parted_from l.id l.initial.layer.classes (map (λ kind. kind.n) l.kinds))

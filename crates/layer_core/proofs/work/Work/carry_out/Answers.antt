@@ -1,0 +1,28 @@
+use Rattle.std.proofs.Common.{◌≡◌, Ok, length, option_map, refl, ◌∙◌, ap}
+use Rattle.std.specs.Arc.{arc_value}
+use Rattle.layer_core.specs.Commands.{applied_of, apply}
+use Rattle.layer_core.specs.Made.{draft_of}
+use Rattle.layer_core.proofs.WorkLemmas.{few_classes, kept_by, settled_as}
+use Rattle.layer_core.proofs.work.Work.carry_out.Goals as goal
+
+pub accepted-requires : goal.accepted-requires
+accepted-requires c = record { few = few_classes (arc_value c.self.inside.conf) (length (arc_value c.self.inside.doc)) c.self.inside.layer c.self.invariant }
+
+pub returns : goal.returns
+returns c =
+    let done : apply (arc_value c.self.inside.conf) (length (arc_value c.self.inside.doc)) c.self.inside.layer c.args.command.now ≡ Ok (applied_of c.self.inside.layer (option_map draft_of c.in_ok-made.made)) =
+    rw (← c.deref.ensures, ← c.deref-2.ensures) c.in_ok-made.ensures.done in
+    rw (← c.self.view_is)
+    (record {
+      done = done ∙ ap Ok (settled_as _ c.settle.new.layer c.settle.result.made c.settle.ensures.layer c.settle.ensures.made);
+      refused = tt;
+      kept = tt;
+      conf = refl;
+      text = refl;
+    })
+
+pub invariant_of-self : goal.invariant_of-self
+invariant_of-self c =
+    let done : apply (arc_value c.self.inside.conf) (length (arc_value c.self.inside.doc)) c.self.inside.layer c.args.command.now ≡ Ok (applied_of c.self.inside.layer (option_map draft_of c.in_ok-made.made)) =
+    rw (← c.deref.ensures, ← c.deref-2.ensures) c.in_ok-made.ensures.done in
+    kept_by (arc_value c.self.inside.conf) (length (arc_value c.self.inside.doc)) c.self.inside.layer c.args.command.now (option_map draft_of c.in_ok-made.made) c.settle.new.layer c.self.invariant done c.settle.ensures.layer

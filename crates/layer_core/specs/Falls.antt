@@ -1,0 +1,21 @@
+-- What falls with an annotation that goes, round by round.
+use Rattle.std.specs.Prelude.{◌||◌, ◌&&◌, Bool, true, false, List, [], ◌∷◌}
+use Rattle.std.specs.Option.{option_map_or}
+use Rattle.std.specs.List.{list_any}
+use Rattle.mark_base.specs.declared.ann_id.AnnId.{AnnId}
+use Rattle.layer_model.specs.Annotations.{Annotations}
+use Rattle.layer_model.specs.Layers.{mark_at}
+use Rattle.layer_core.specs.PairRules.{is_id}
+use Rattle.layer_core.specs.Rules.{named_by}
+
+-- an annotation falls in the next round: it is the one that goes, or it names that one or one that fell before
+abbrev pub falls_next : Annotations → AnnId → List AnnId → AnnId → Bool
+falls_next layer gone fallen id =
+    is_id gone id || option_map_or (λ mark. list_any (λ named. is_id gone named || list_any (is_id named) fallen) (named_by mark)) (mark_at layer id) false
+
+-- the same IDs in the same order
+abbrev pub same_ids : List AnnId → List AnnId → Bool
+same_ids [] [] = true
+same_ids (a ∷ as_) (b ∷ bs) = is_id a b && same_ids as_ bs
+same_ids [] (b ∷ bs) = false
+same_ids (a ∷ as_) [] = false
