@@ -1,5 +1,5 @@
 -- What holds of a result for every configuration holds for one.
-use Rattle.std.proofs.Common.{◌≡◌, Option, Result, Ok, Err}
+use Rattle.std.proofs.Common.{◌≡◌, Result, Ok, Err}
 use Rattle.std.specs.Prelude.{IfOk}
 
 pub at_one : {X E C Y : Type 0} (r : Result X E) (f : X → Y) (g : C → Y) (one : C) → IfOk r (λ x. (c : C) → f x ≡ g c) → IfOk r (λ x. f x ≡ g one)

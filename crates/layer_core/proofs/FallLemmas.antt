@@ -1,5 +1,5 @@
 -- What falls with an annotation that goes, round by round.
-use Rattle.std.proofs.Common.{◌≡◌, ℕ, ◌+◌, ◌*◌, ◌⊎◌, inl, inr, ◌<◌, ◌≤◌, ◌==◌, ◌||◌, ◌&&◌, Bool, true, false, cond, zero, suc, List, [], ◌∷◌, ◌++◌, map, filter, length, slice_get, Option, Some, None, refl, sym, ◌∙◌, ap, arith, tests}
+use Rattle.std.proofs.Common.{◌≡◌, ℕ, ◌+◌, ◌*◌, ◌⊎◌, inl, inr, ◌<◌, ◌≤◌, ◌==◌, ◌||◌, ◌&&◌, Bool, true, false, cond, zero, suc, List, [], ◌∷◌, map, filter, length, slice_get, Option, Some, None, refl, sym, ◌∙◌, ap, arith, tests}
 use Rattle.std.specs.Option.{option_map_or}
 use Rattle.std.specs.List.{list_any, flat_map}
 use Rattle.std.proofs.lemmas.List.Folds.{list_any-append}
@@ -44,7 +44,7 @@ apart_first a b m n hm hn e = omega arith
 apart_last : (a b m n : ℕ) → m ≤ 999999999 → n ≤ 999999999 → a * 1000000000 + m ≡ b * 1000000000 + n → m ≡ n
 apart_last a b m n hm hn e = omega arith
 
-pub one_id : (a b : AnnId) → is_id a b ≡ true → a ≡ b
+one_id : (a b : AnnId) → is_id a b ≡ true → a ≡ b
 one_id a b e =
     let same = is_equal (id_place a) (id_place b) e in
     let places : letter_place a.kind ≡ letter_place b.kind = apart_first (letter_place a.kind) (letter_place b.kind) a.number b.number a.within b.within same in

@@ -1,5 +1,5 @@
 -- Rules of a command one after another, as the code nests them.
-use Rattle.std.proofs.Common.{◌≡◌, Option, Some, None, refl, sym, ◌∙◌, ap}
+use Rattle.std.proofs.Common.{◌≡◌, Option, Some, None, refl, ◌∙◌, ap}
 use Rattle.std.specs.Option.{option_or}
 use Rattle.layer_model.specs.declared.rule.Rule.{Rule}
 

@@ -102,16 +102,3 @@ span_got layer letter.Attribute n span e = absurd (some_none e)
 span_got layer letter.Legacy n span e = absurd (some_none e)
 span_got layer letter.Normal n span e = absurd (some_none e)
 span_got layer letter.Note n span e = absurd (some_none e)
-
-pub span_marked : (layer : Annotations) (kind : Kind) (n : ℕ) (span : Span) → Some span ≡ (if is_span_letter kind then finite.get layer.spans n else None) → mark_of layer kind n ≡ Some (marked.Span span)
-span_marked layer letter.Text n span e = ap (option_map marked.Span) (sym e)
-span_marked layer letter.Event n span e = absurd (some_none e)
-span_marked layer letter.Relation n span e = absurd (some_none e)
-span_marked layer letter.Attribute n span e = absurd (some_none e)
-span_marked layer letter.Legacy n span e = absurd (some_none e)
-span_marked layer letter.Normal n span e = absurd (some_none e)
-span_marked layer letter.Note n span e = absurd (some_none e)
-
-pub over_span : (conf : Configuration) (layer : Annotations) (id : AnnId) (span : Span) (xs : List AnnId) → Some span ≡ span_of layer id
-    → option_and_then (λ mark. find (other_than (refused_overlap conf) layer id mark) xs) (mark_at layer id) ≡ find (other_than (refused_overlap conf) layer id (marked.Span span)) xs
-over_span conf layer id span xs e = ap (option_and_then (λ mark. find (other_than (refused_overlap conf) layer id mark) xs)) (span_marked layer id.kind id.number span e)

@@ -1,19 +1,17 @@
 -- What carrying out a command comes to, from its steps.
-use Rattle.std.proofs.Common.{◌≡◌, ℕ, ◌<◌, ◌≤◌, ◌==◌, zero, suc, true, List, [], ◌∷◌, length, slice_get, Option, Some, None, Ok, Err, option_map, option_and_then, refl, sym, ◌∙◌, ap, subst, arith}
+use Rattle.std.proofs.Common.{◌≡◌, ℕ, ◌<◌, ◌≤◌, zero, suc, List, [], ◌∷◌, length, slice_get, Option, Some, None, Ok, Err, option_and_then, refl, sym, ◌∙◌, ap, subst, arith}
 use Rattle.std.specs.Prelude.{IfOk}
-use Rattle.std.specs.Option.{option_map_or}
 use Rattle.mark_base.specs.declared.ann_id.AnnId.{AnnId}
 use Rattle.annotation_conf.specs.Configurations.{Configuration}
 use Rattle.layer_model.specs.declared.class.Class.{Class}
 use Rattle.layer_model.specs.declared.rule.Rule.{Rule}
-use Rattle.layer_model.specs.declared.flaw.Flaw.{Flaw}
 use Rattle.layer_model.specs.declared.flaw.FlawPlace.TheVariants as at
 use Rattle.layer_model.specs.Annotations.{Annotations}
 use Rattle.layer_core.specs.declared.command.Command.{Command}
 use Rattle.layer_core.specs.PairRules.{classes_full}
-use Rattle.layer_core.specs.WellFormed.{IsWellFormed, least_flaw}
+use Rattle.layer_core.specs.WellFormed.{IsWellFormed}
 use Rattle.layer_core.specs.Drafts.{Draft, draft}
-use Rattle.layer_core.specs.Commands.{Applied, answer_of, applied_of, apply, draft_rule, refusal, told_of}
+use Rattle.layer_core.specs.Commands.{Applied, answer_of, applied_of, apply, refusal}
 use Rattle.layer_core.proofs.CommandLemmas.{commands_keep}
 
 -- ---- a well-formed layer has not too many classes
@@ -32,23 +30,6 @@ few_classes conf characters layer well = split (slice_get layer.classes 10000) r
     split : (o : Option Class) → slice_get layer.classes 10000 ≡ o → length layer.classes < 4294967295
     split None e = let few = past layer.classes 10000 e in omega arith
     split (Some class) e = absurd (some_none (sym (ap (option_and_then (classes_full 10000)) e) ∙ well.room (at.Class 10000)))
-
--- ---- the rule of the least flaw of a draft
-
-pub told_where : (conf : Configuration) (characters : ℕ) (made : Draft) (flaw : Flaw) (id : AnnId) (told : Rule) → least_flaw conf characters made.layer ≡ Some flaw → made.changed ≡ Some id
-    → told ≡ told_of conf made.layer id flaw.rule → Some told ≡ draft_rule conf characters made
-told_where conf characters made flaw id told is changed so =
-    ap Some (so ∙ sym (ap (λ o. option_map_or (λ i. told_of conf made.layer i flaw.rule) o flaw.rule) changed))
-    ∙ sym (ap (option_map (λ (f : Flaw). option_map_or (λ i. told_of conf made.layer i f.rule) made.changed f.rule)) is)
-
-pub told_nowhere : (conf : Configuration) (characters : ℕ) (made : Draft) (flaw : Flaw) → least_flaw conf characters made.layer ≡ Some flaw → made.changed ≡ None
-    → Some flaw.rule ≡ draft_rule conf characters made
-told_nowhere conf characters made flaw is changed =
-    ap Some (sym (ap (λ o. option_map_or (λ i. told_of conf made.layer i flaw.rule) o flaw.rule) changed))
-    ∙ sym (ap (option_map (λ (f : Flaw). option_map_or (λ i. told_of conf made.layer i f.rule) made.changed f.rule)) is)
-
-pub unbroken : (conf : Configuration) (characters : ℕ) (made : Draft) → least_flaw conf characters made.layer ≡ None → None ≡ draft_rule conf characters made
-unbroken conf characters made is = sym (ap (option_map (λ (f : Flaw). option_map_or (λ i. told_of conf made.layer i f.rule) made.changed f.rule)) is)
 
 -- ---- the answer
 

@@ -1,5 +1,5 @@
 -- What a command does to a layer: the layer that it makes, or the first rule that it breaks.
-use Rattle.std.specs.Prelude.{ℕ, ◌==◌, ◌&&◌, Bool, true, false, not, length, List, [], ◌∷◌, map, nat_lt, Option, Some, None, is_none, option_map, option_and_then, find, Result, Ok, Err, if◌then◌else◌}
+use Rattle.std.specs.Prelude.{ℕ, ◌&&◌, Bool, false, not, length, List, [], ◌∷◌, map, nat_lt, Option, Some, None, is_none, option_map, option_and_then, find, Result, Ok, Err, if◌then◌else◌}
 use Rattle.std.specs.Option.{option_or, option_map_or}
 use Rattle.mark_base.specs.declared.ann_id.AnnId.{AnnId}
 use Rattle.mark_base.specs.declared.ann_id.Kind.{Kind}
@@ -20,7 +20,7 @@ use Rattle.layer_core.specs.Targets.{is_attribute_target, type_of}
 use Rattle.layer_core.specs.Rules.{where_so, first_missing, first_unwanted, Wanted, argument, trigger, member}
 use Rattle.layer_core.specs.PairRules.{is_id, same_spans, same_events, same_relations, same_attributes, refused_overlap}
 use Rattle.layer_core.specs.WellFormed.{least_flaw}
-use Rattle.layer_core.specs.Fields.{event_named, undeclared, barred, no_equivalence, of_letters, is_span_letter, is_event_letter, is_attribute_letter, in_use, trigger_in_use, used_up, roles_undeclared, event_type, no_such_argument, Valued, value_of, value_refused, attribute_on, attribute_same, target_refused, members_refused, not_in_class}
+use Rattle.layer_core.specs.Fields.{event_named, undeclared, barred, no_equivalence, of_letters, is_span_letter, is_event_letter, is_attribute_letter, in_use, trigger_in_use, used_up, roles_undeclared, event_type, no_such_argument, value_of, value_refused, attribute_on, attribute_same, target_refused, members_refused, not_in_class}
 use Rattle.layer_core.specs.Drafts.{Draft, draft, is_note_on, is_reference_to, lowest}
 
 -- the target of an attribute

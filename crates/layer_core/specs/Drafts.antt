@@ -1,16 +1,13 @@
 -- The layer that a command makes, where its names are declared.
-use Rattle.std.specs.Prelude.{ℕ, ◌+◌, ◌==◌, ◌||◌, ◌&&◌, Bool, true, false, not, List, [], ◌∷◌, ◌++◌, zero, suc, length, map, nat_lt, bytes_eq, Option, Some, None, is_some, option_map, option_and_then, find, filter, unwrap_or, if◌then◌else◌}
-use Rattle.std.specs.Option.{option_or, option_map_or}
-use Rattle.std.specs.List.{list_any, range_with_len, fold}
+use Rattle.std.specs.Prelude.{ℕ, ◌+◌, ◌==◌, ◌||◌, ◌&&◌, Bool, true, false, not, List, [], ◌∷◌, ◌++◌, zero, suc, length, map, bytes_eq, Option, Some, None, is_some, option_map, option_and_then, find, filter, unwrap_or, if◌then◌else◌}
+use Rattle.std.specs.Option.{option_map_or}
+use Rattle.std.specs.List.{list_any, range_with_len}
 use Rattle.std.specs.FinMap as finite
 use Rattle.mark_base.specs.declared.ann_id.AnnId.{AnnId}
 use Rattle.mark_base.specs.declared.ann_id.Kind.{Kind}
 use Rattle.mark_base.specs.declared.ann_id.Kind.TheVariants as letter
-use Rattle.mark_base.specs.declared.places.TypeId.{TypeId}
-use Rattle.mark_base.specs.declared.places.RelId.{RelId}
 use Rattle.mark_base.specs.declared.places.AttrId.{AttrId}
 use Rattle.mark_base.specs.declared.arguments.Arg.{Arg}
-use Rattle.mark_base.specs.declared.named_args.NamedArg.{NamedArg}
 use Rattle.type_hierarchy.specs.TypeTrees.{type_named}
 use Rattle.annotation_conf.specs.Configurations.{Configuration}
 use Rattle.annotation_conf.specs.Lookups.{relation_named, attribute_named}
@@ -28,7 +25,7 @@ use Rattle.layer_core.specs.declared.command.Command.TheVariants as ask
 use Rattle.layer_core.specs.Ids.{id_at, ids_of, ids_of_letter}
 use Rattle.layer_core.specs.Rules.{named_by}
 use Rattle.layer_core.specs.PairRules.{is_id, is_arg}
-use Rattle.layer_core.specs.Fields.{event_named, is_span_letter, is_event_letter, is_relation_letter, is_attribute_letter, first_naming, is_in_trigger, args_named, arg_named, Valued, Undeclared, Declared, value_of, attribute_on}
+use Rattle.layer_core.specs.Fields.{event_named, is_span_letter, is_event_letter, is_relation_letter, first_naming, is_in_trigger, args_named, arg_named, Valued, Undeclared, Declared, value_of, attribute_on}
 
 -- a layer that a command makes, the annotation that is new or changed in it, and whether it is new
 pub record Draft : Type 0 where

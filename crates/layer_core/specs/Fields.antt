@@ -1,6 +1,6 @@
 -- What breaks a rule in a command's own fields.
-use Rattle.std.specs.Prelude.{ℕ, ◌+◌, ◌==◌, ◌||◌, ◌&&◌, Bool, true, false, not, List, [], ◌∷◌, ◌++◌, length, map, nat_lt, bytes_eq, Option, Some, None, is_some, is_none, option_map, option_and_then, find, filter, if◌then◌else◌}
-use Rattle.std.specs.Option.{option_or, option_map_or}
+use Rattle.std.specs.Prelude.{ℕ, ◌==◌, ◌||◌, ◌&&◌, Bool, true, false, not, List, [], ◌∷◌, ◌++◌, length, nat_lt, Option, Some, None, is_none, option_map, option_and_then, find, if◌then◌else◌}
+use Rattle.std.specs.Option.{option_map_or}
 use Rattle.std.specs.List.{list_any}
 use Rattle.std.specs.FinMap as finite
 use Rattle.mark_base.specs.declared.ann_id.AnnId.{AnnId}
@@ -11,18 +11,18 @@ use Rattle.mark_base.specs.declared.arguments.Arg.{Arg}
 use Rattle.mark_base.specs.declared.named_args.NamedArg.{NamedArg}
 use Rattle.type_hierarchy.specs.TypeTrees.{type_named}
 use Rattle.annotation_conf.specs.Configurations.{Configuration}
-use Rattle.annotation_conf.specs.Lookups.{relation_named, role_named, attribute_named, value_named, values_of, attribute_admits, is_equivalence}
+use Rattle.annotation_conf.specs.Lookups.{role_named, value_named, attribute_admits, is_equivalence}
 use Rattle.layer_model.specs.declared.mark.Mark.{Mark}
 use Rattle.layer_model.specs.declared.mark.Mark.TheVariants.{Attribute}
 use Rattle.layer_model.specs.declared.class.Class.{Class}
 use Rattle.layer_model.specs.declared.rule.Rule.{Rule}
-use Rattle.layer_model.specs.declared.rule.Rule.TheVariants.{UnknownType, NotForUse, NoSuch, WrongKind, UnknownRole, ArgumentType, NoSuchArgument, UnknownValue, AttributeThere, EquivMembers, InUse, IdsUsedUp}
+use Rattle.layer_model.specs.declared.rule.Rule.TheVariants.{UnknownType, NotForUse, UnknownRole, ArgumentType, NoSuchArgument, AttributeThere, EquivMembers, InUse, IdsUsedUp}
 use Rattle.layer_model.specs.declared.rule.RoleAt.TheVariants as role
 use Rattle.layer_model.specs.Annotations.{Annotations}
-use Rattle.layer_model.specs.Layers.{mark_at, greatest, has}
-use Rattle.layer_core.specs.Ids.{id_at, ids_of, ids_of_letter}
-use Rattle.layer_core.specs.Targets.{is_event_type, is_attribute_target, type_of, target_of}
-use Rattle.layer_core.specs.Rules.{where_so, is_barred_type, named_by, first_missing, Wanted, argument, trigger, member, first_unwanted, is_bad_value}
+use Rattle.layer_model.specs.Layers.{mark_at, greatest}
+use Rattle.layer_core.specs.Ids.{ids_of, ids_of_letter}
+use Rattle.layer_core.specs.Targets.{is_event_type, type_of, target_of}
+use Rattle.layer_core.specs.Rules.{where_so, is_barred_type, named_by, Wanted, is_bad_value}
 use Rattle.layer_core.specs.PairRules.{is_id, is_arg, are_bad_members}
 
 -- the event type of a name

@@ -1,5 +1,4 @@
 -- A layer that a command makes, as the code keeps it.
-use Rattle.std.specs.Prelude.{Option}
 use Rattle.layer_core.specs.declared.draft.Draft as kept
 use Rattle.layer_core.specs.Drafts.{Draft}
 

@@ -1,4 +1,4 @@
-use Rattle.std.proofs.Common.{◌≡◌, ◌+◌, true, false, not, sym, ◌∙◌, ap, arith, rules}
+use Rattle.std.proofs.Common.{◌≡◌, ◌+◌, true, not, sym, ◌∙◌, ap, arith, rules}
 use Rattle.layer_model.specs.Layers.{count, has_number}
 use Rattle.layer_core.proofs.DeskLemmas.{count_low}
 use Rattle.layer_core.proofs.RecordLemmas.{passed_in_range}

@@ -1,4 +1,4 @@
-use Rattle.std.proofs.Common.{◌≡◌, true, Some, option_map, refl, sym, ◌∙◌, ap, rules}
+use Rattle.std.proofs.Common.{◌≡◌, true, Some, option_map, sym, ◌∙◌, ap, rules}
 use Rattle.layer_core.specs.Fields.{args_named, event_named, is_span_letter}
 use Rattle.layer_core.proofs.DeskLemmas.{one_event}
 use Rattle.layer_core.proofs.drafts.add_event.Goals as goal

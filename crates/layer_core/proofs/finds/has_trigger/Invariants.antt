@@ -1,5 +1,5 @@
-use Rattle.std.proofs.Common.{◌≡◌, ◌++◌, drop, map, filter, find, ◌==◌}
-use Rattle.std.specs.List.{list_any, list_all}
+use Rattle.std.proofs.Common.{◌≡◌, ◌==◌}
+use Rattle.std.specs.List.{list_any}
 use Rattle.layer_core.proofs.finds.has_trigger.Given as goal
 
 abbrev pub invariant-loop-number : goal.invariant-loop-number

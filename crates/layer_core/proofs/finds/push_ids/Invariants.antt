@@ -1,5 +1,4 @@
-use Rattle.std.proofs.Common.{◌≡◌, ◌++◌, drop, map, filter, find, ◌==◌}
-use Rattle.std.specs.List.{list_any, list_all}
+use Rattle.std.proofs.Common.{◌≡◌, ◌++◌, map}
 use Rattle.std.specs.Map.{keys_of}
 use Rattle.layer_core.specs.Ids.{id_at}
 use Rattle.layer_core.proofs.finds.push_ids.Given as goal

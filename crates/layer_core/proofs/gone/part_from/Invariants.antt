@@ -1,5 +1,4 @@
-use Rattle.std.proofs.Common.{◌≡◌, ◌++◌, drop, map, filter, find, ◌==◌}
-use Rattle.std.specs.List.{list_any, list_all}
+use Rattle.std.proofs.Common.{◌≡◌, drop, map}
 use Rattle.layer_model.specs.Layers.{with_classes}
 use Rattle.layer_core.specs.Drafts.{parted_from}
 use Rattle.layer_core.proofs.gone.part_from.Given as goal

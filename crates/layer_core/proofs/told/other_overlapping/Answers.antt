@@ -3,7 +3,7 @@ use Rattle.std.specs.Option.{option_copied, option_map_or}
 use Rattle.layer_core.specs.Ids.{ids_of}
 use Rattle.layer_core.specs.Drafts.{span_of}
 use Rattle.layer_core.proofs.OverlapLemmas.{good_ascending}
-use Rattle.layer_core.proofs.PairedLemmas.{no_overlap, over_span, span_got}
+use Rattle.layer_core.proofs.PairedLemmas.{no_overlap, span_got}
 use Rattle.layer_core.proofs.told.other_overlapping.Goals as goal
 
 pub returns-in_default : goal.returns-in_default

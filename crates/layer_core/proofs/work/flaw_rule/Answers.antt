@@ -1,7 +1,4 @@
-use Rattle.std.proofs.Common.{sym, ◌∙◌}
-use Rattle.layer_core.specs.Made.{draft_of}
 use Rattle.layer_core.proofs.TellLemmas.{good_where_told}
-use Rattle.layer_core.proofs.WorkLemmas.{told_nowhere, told_where}
 use Rattle.layer_core.proofs.work.flaw_rule.Goals as goal
 
 pub told_of-requires : goal.told_of-requires
