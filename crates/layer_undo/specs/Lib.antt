@@ -1,0 +1,4 @@
+pub mod Calls
+pub mod Desks
+pub mod Replays
+pub mod Starts

@@ -1,0 +1,107 @@
+//! Two scripts, tried on a layer.
+ghost use Rattle.std.specs.Prelude.{◌≡◌, ◌≤◌, ◌+◌, ◌++◌, IfErr, IfOk, IsOk, None, Ok, OnOk, length, nat_lt, reverse};
+ghost use Rattle.std.specs.Arc.{arc_value};
+ghost use Rattle.layer_core.specs.WellFormed.{IsWellFormed};
+ghost use Rattle.layer_undo.specs.Desks.{IsWorkOf};
+ghost use Rattle.layer_undo.specs.Replays.{first_refusal, replay_from};
+ghost use Rattle.layer_undo.specs.Starts.{IsDeskStart, IsStop};
+
+use crate::replay::{open_copy, reopen, replay_back, replay_forward};
+use crate::{DeskStart, Script};
+use annotation_conf::Conf;
+use char_documents::Doc;
+use layer_core::{Command, Work};
+use layer_model::{Layer, Rule};
+use std::alloc::Global;
+use std::sync::Arc;
+
+/// Whether two scripts have more commands than a desk takes.
+fn are_too_many(done: &[Command], undone: &[Command]) -> bool
+    ensures { result ≡ nat_lt 4096 (length done.now + length undone.now) }
+{
+    done.len() > 4096 || undone.len() > 4096 - done.len()
+}
+
+/// Tries undone commands from their end on a copy of a layer, where the last has this index. Cost: a copy
+/// and a check of the layer, and as much as the commands cost.
+fn try_undone(
+    alloc: Global,
+    layer: &Layer,
+    doc: &Arc<Doc>,
+    conf: &Arc<Conf>,
+    at: u32,
+    undone: &[Command],
+) -> Result<(), DeskStart>
+    requires well_formed { IsWellFormed (arc_value conf.now) (length (arc_value doc.now)) layer.now }
+    requires few { at + length undone.now ≤ 4096 }
+    ensures accepted { OnOk result (IsOk (replay_from (arc_value conf.now) (length (arc_value doc.now)) at layer.now (reverse undone.now))) }
+    ensures stopped { IfErr result (IsStop (replay_from (arc_value conf.now) (length (arc_value doc.now)) at layer.now (reverse undone.now))) }
+{
+    if undone.is_empty() {
+        return Ok(());
+    }
+    let mut redone = reopen(alloc, layer, doc, conf)?;
+    replay_back(alloc, &mut redone, at, undone)
+}
+
+/// Carries done commands out on a work, and tries undone ones behind them.
+fn carry_scripts(
+    alloc: Global,
+    work: &mut Work,
+    doc: &Arc<Doc>,
+    conf: &Arc<Conf>,
+    done: &[Command],
+    undone: &[Command],
+) -> Result<(), DeskStart>
+    requires few { length done.now + length undone.now ≤ 4096 }
+    requires conf { work.old.conf ≡ arc_value conf.now }
+    requires text { work.old.text ≡ arc_value doc.now }
+    ensures done { OnOk result (replay_from work.old.conf (length work.old.text) 0 work.old.layer done.now ≡ Ok work.new.layer) }
+    ensures accepted { OnOk result (IsOk (replay_from work.old.conf (length work.old.text) 0 work.old.layer (done.now ++ reverse undone.now))) }
+    ensures stopped { IfErr result (IsStop (replay_from work.old.conf (length work.old.text) 0 work.old.layer (done.now ++ reverse undone.now))) }
+    ensures conf { work.new.conf ≡ work.old.conf }
+    ensures text { work.new.text ≡ work.old.text }
+{
+    replay_forward(alloc, work, 0, done)?;
+    try_undone(alloc, work.layer(), doc, conf, done.len() as u32, undone)
+}
+
+/// The work of a desk with these scripts: the done commands are carried out on a copy of the base, and
+/// the undone ones are tried behind them.
+pub(crate) fn try_scripts(
+    alloc: Global,
+    base: &Layer,
+    doc: &Arc<Doc>,
+    conf: &Arc<Conf>,
+    done: &[Command],
+    undone: &[Command],
+) -> Result<Work, DeskStart>
+    ensures work { IfOk result (IsWorkOf (record { conf = arc_value conf.now; text = arc_value doc.now; base = base.now; done = done.now; undone = undone.now })) }
+    ensures refused { IfErr result (IsDeskStart (arc_value conf.now) (length (arc_value doc.now)) base.now done.now undone.now) }
+{
+    let mut work = open_copy(alloc, base, doc, conf)?;
+    let _layer = work.layer();
+    if are_too_many(done, undone) {
+        return Err(DeskStart::At(4096, Rule::DeskFull));
+    }
+    carry_scripts(alloc, &mut work, doc, conf, done, undone)?;
+    Ok(work)
+}
+
+/// Tries two scripts on a layer, as [`Desk::open`](crate::Desk::open) does, and keeps nothing. Cost: a
+/// copy and a check of the base, and then as much as the commands of both scripts cost.
+pub fn check_scripts(
+    alloc: Global,
+    base: &Layer,
+    doc: &Arc<Doc>,
+    conf: &Arc<Conf>,
+    done: &Script,
+    undone: &Script,
+) -> Result<(), DeskStart>
+    ensures well_formed { OnOk result (IsWellFormed (arc_value conf.now) (length (arc_value doc.now)) base.now) }
+    ensures accepted { OnOk result (first_refusal (arc_value conf.now) (length (arc_value doc.now)) base.now done.now undone.now ≡ None) }
+    ensures refused { IfErr result (IsDeskStart (arc_value conf.now) (length (arc_value doc.now)) base.now done.now undone.now) }
+{
+    try_scripts(alloc, base, doc, conf, done.items(), undone.items())?;
+    Ok(())
+}
