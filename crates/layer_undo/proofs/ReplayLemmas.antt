@@ -12,7 +12,7 @@ use Rattle.layer_core.specs.declared.command.Command.{Command}
 use Rattle.layer_core.specs.Commands.{Applied, apply}
 use Rattle.layer_undo.specs.declared.desk_start.DeskStart.{DeskStart}
 use Rattle.layer_undo.specs.declared.desk_start.DeskStart.TheVariants.{Base, At, Memory}
-use Rattle.layer_undo.specs.Starts.{IsStop}
+use Rattle.layer_undo.specs.Starts.{IsStop, IsWantOfMemory}
 use Rattle.layer_undo.specs.Replays.{Outcome, next, replay_from, replay, first_refusal}
 use Rattle.layer_undo.specs.Desks.{last_of, but_last}
 
@@ -104,3 +104,9 @@ pub stop_front : (conf : Configuration) (characters : ℕ) (layer : Annotations)
 stop_front conf characters layer xs ys (Base flaw) h = h
 stop_front conf characters layer xs ys (At index rule) h = replay_stopped conf characters 0 layer (index, rule) xs ys h
 stop_front conf characters layer xs ys Memory h = h
+
+-- commands that are not refused stop for want of memory alone
+pub want_alone : (outcome : Outcome) (start : DeskStart) → IsOk outcome → IsStop outcome start → IsWantOfMemory start
+want_alone outcome (Base flaw) ok h = h
+want_alone outcome (At index rule) ok h = false≢true (sym (ap is_ok h) ∙ ok)
+want_alone outcome Memory ok h = h

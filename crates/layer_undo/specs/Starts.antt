@@ -31,6 +31,12 @@ IsStop outcome (Base flaw) = ⊥
 IsStop outcome (At index rule) = outcome ≡ Err (index, rule)
 IsStop outcome Memory = ⊤
 
+-- nothing but want of memory
+abbrev pub IsWantOfMemory : DeskStart → Type 0
+IsWantOfMemory (Base flaw) = ⊥
+IsWantOfMemory (At index rule) = ⊥
+IsWantOfMemory Memory = ⊤
+
 -- the fault of a layer as the fault of a base
 abbrev pub start_of : CheckFault → DeskStart
 start_of (fault.Flaw flaw) = Base flaw

@@ -6,7 +6,7 @@ ghost use Rattle.layer_core.specs.WellFormed.{IsWellFormed};
 ghost use Rattle.layer_core.specs.declared.command.Command.{Command};
 ghost use Rattle.layer_undo.specs.Desks.{last_of};
 ghost use Rattle.layer_undo.specs.Replays.{replay, replay_from};
-ghost use Rattle.layer_undo.specs.Starts.{IsStop};
+ghost use Rattle.layer_undo.specs.Starts.{IsStop, IsWantOfMemory};
 
 use crate::DeskStart;
 use annotation_conf::Conf;
@@ -128,6 +128,17 @@ pub(crate) fn replay_back(
     Ok(())
 }
 
+/// The want of memory that stopped commands of which none is refused.
+fn want_of_memory(stop: DeskStart) -> Memory
+    requires { IsWantOfMemory stop }
+{
+    match stop {
+        DeskStart::Memory => Memory,
+        DeskStart::At(_, _) => unreachable!(),
+        DeskStart::Base(_) => unreachable!(),
+    }
+}
+
 /// Carries copies of these commands out in turn, of which none is refused. Cost: as that many commands.
 fn repeat(alloc: Global, work: &mut Work, commands: &[Command]) -> Result<(), Memory>
     requires few { length commands.now ≤ 4096 }
@@ -138,8 +149,7 @@ fn repeat(alloc: Global, work: &mut Work, commands: &[Command]) -> Result<(), Me
 {
     match replay_forward(alloc, work, 0, commands) {
         Ok(()) => Ok(()),
-        Err(DeskStart::Memory) => Err(Memory),
-        Err(_) => unreachable!(),
+        Err(stop) => Err(want_of_memory(stop)),
     }
 }
 
@@ -180,8 +190,7 @@ fn repeat_one(
 {
     match carry_out(alloc, work, at, command) {
         Ok(()) => Ok(()),
-        Err(DeskStart::Memory) => Err(Memory),
-        Err(_) => unreachable!(),
+        Err(stop) => Err(want_of_memory(stop)),
     }
 }
 
