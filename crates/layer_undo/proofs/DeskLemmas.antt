@@ -5,6 +5,7 @@ use Rattle.std.specs.Result.{result_err, result_ok}
 use Rattle.std.proofs.lemmas.Bool.{cases_lt, cond-true, cond-false, false≢true, lt-ltb, le-ltb}
 use Rattle.std.proofs.lemmas.List.{append-nil, length-append}
 use Rattle.std.proofs.lemmas.Option.{none-some, slice_get_within}
+use Rattle.mark_base.specs.declared.ann_id.AnnId.{AnnId}
 use Rattle.annotation_conf.specs.Configurations.{Configuration}
 use Rattle.layer_model.specs.declared.rule.Rule.{Rule}
 use Rattle.layer_model.specs.declared.rule.Rule.TheVariants.{DeskFull, NothingToUndo, NothingToRedo}
@@ -104,3 +105,79 @@ one_more desk layer made command at now place more =
 -- the layer of a desk
 pub layer_is : (desk : DeskState) (layer : Annotations) → replay desk.conf (length desk.text) desk.base desk.done ≡ Ok layer → layer_of desk ≡ layer
 layer_is desk layer e = ap (λ outcome. unwrap_or (result_ok outcome) desk.base) e
+
+-- the last of a list that went to the end of another
+moved_of : {X : Type 0} (last : Option X) (ys zs : List X) → option_map (λ x. ys ++ x ∷ []) last ≡ Some zs → (x : X) × (last ≡ Some x) × (ys ++ x ∷ [] ≡ zs)
+moved_of None ys zs e = absurd (none-some zs e)
+moved_of (Some x) ys zs e = (x, refl, ap (λ o. unwrap_or o zs) e)
+
+-- a work that has the layer of a desk with one command less
+pub undo_works : (desk : DeskState) (old new : WorkState) (base : Annotations) (kept done undone : List Command) → IsWorkOf desk old → base ≡ desk.base → kept ≡ but_last desk.done → done ≡ but_last desk.done → option_map (λ command. desk.undone ++ command ∷ []) (last_of desk.done) ≡ Some undone → replay desk.conf (length desk.text) base kept ≡ Ok new.layer → new.conf ≡ desk.conf → new.text ≡ desk.text → IsWorkOf (with_scripts desk done undone) new
+undo_works desk old new base kept done undone is same_base same_kept less more layer conf text =
+    let m = moved_of (last_of desk.done) desk.undone undone more in
+    record {
+      is_desk = subst (λ d. IsDesk (with_scripts desk d undone)) (sym less) (subst (λ u. IsDesk (with_scripts desk (but_last desk.done) u)) m.2 (undo_keeps desk m.0 is.is_desk m.1));
+      conf = conf;
+      text = text;
+      layer =
+        ap (replay desk.conf (length desk.text) desk.base) (less ∙ sym same_kept)
+        ∙ ap (λ b. replay desk.conf (length desk.text) b kept) (sym same_base)
+        ∙ layer;
+    }
+
+-- the configuration and the text of a work are those of its desk
+same_setting : (desk : DeskState) (work : WorkState) (at : ℕ) (layer : Annotations) (commands : List Command) → IsWorkOf desk work → replay_from work.conf (length work.text) at layer commands ≡ replay_from desk.conf (length desk.text) at layer commands
+same_setting desk work at layer commands is =
+    ap (λ conf. replay_from conf (length work.text) at layer commands) is.conf ∙ ap (λ text. replay_from desk.conf (length text) at layer commands) is.text
+
+-- a work that has the layer of a desk with one command more that was undone
+pub redo_works : (desk : DeskState) (old new : WorkState) (at : ℕ) (done undone : List Command) → IsWorkOf desk old → at ≡ length desk.done → undone ≡ but_last desk.undone → option_map (λ command. desk.done ++ command ∷ []) (last_of desk.undone) ≡ Some done → ((command : Command) → last_of desk.undone ≡ Some command → replay_from old.conf (length old.text) at old.layer (command ∷ []) ≡ Ok new.layer) → new.conf ≡ old.conf → new.text ≡ old.text → IsWorkOf (with_scripts desk done undone) new
+redo_works desk old new at done undone is place less more layer conf text =
+    let m = moved_of (last_of desk.undone) desk.done done more in
+    record {
+      is_desk = subst (λ u. IsDesk (with_scripts desk done u)) (sym less) (subst (λ d. IsDesk (with_scripts desk d (but_last desk.undone))) m.2 (redo_keeps desk m.0 is.is_desk m.1));
+      conf = conf ∙ is.conf;
+      text = text ∙ is.text;
+      layer =
+        ap (replay desk.conf (length desk.text) desk.base) (sym m.2)
+        ∙ one_more desk old.layer new.layer m.0 at is.layer place (sym (same_setting desk old at old.layer (m.0 ∷ []) is) ∙ layer m.0 m.1);
+    }
+
+-- the command that was undone last is not refused on a work that has the layer of the desk
+pub last_works : (desk : DeskState) (work : WorkState) (at : ℕ) (undone : List Command) → IsWorkOf desk work → at ≡ length desk.done → undone ≡ desk.undone → (command : Command) → last_of undone ≡ Some command → IsOk (replay_from work.conf (length work.text) at work.layer (command ∷ []))
+last_works desk work at undone is place same command e =
+    ap is_ok (same_setting desk work at work.layer (command ∷ []) is ∙ ap (λ k. replay_from desk.conf (length desk.text) k work.layer (command ∷ [])) place)
+    ∙ last_accepted desk work.layer command is.is_desk is.layer (ap last_of (sym same) ∙ e)
+
+-- the done commands without the last are not refused on the base of the desk
+pub front_works : (desk : DeskState) (base : Annotations) (kept : List Command) → IsDesk desk → 0 < length desk.done → base ≡ desk.base → kept ≡ but_last desk.done → IsOk (replay desk.conf (length desk.text) base kept)
+front_works desk base kept is some same_base same_kept =
+    let split = split_last desk.done some in
+    ap is_ok (ap (λ b. replay desk.conf (length desk.text) b kept) same_base ∙ ap (replay desk.conf (length desk.text) desk.base) same_kept)
+    ∙ front_accepted desk split.0 is split.1
+
+-- a command that was carried out on the layer of a desk leaves a desk
+pub perform_keeps : (desk : DeskState) (layer made : Annotations) (command : Command) → IsDesk desk → length desk.done < 4096 → replay desk.conf (length desk.text) desk.base (desk.done ++ command ∷ []) ≡ Ok made → IsDesk (with_scripts desk (desk.done ++ command ∷ []) [])
+perform_keeps desk layer made command is few e =
+    let more : length (desk.done ++ command ∷ []) ≡ length desk.done + 1 = length-append desk.done (command ∷ []) in
+    record {
+      base = is.base;
+      accepted =
+        accepted desk.conf (length desk.text) desk.base (desk.done ++ command ∷ []) [] (omega (arith, more))
+        (ap (λ all. is_ok (replay desk.conf (length desk.text) desk.base all)) (append-nil (desk.done ++ command ∷ [])) ∙ ap is_ok e);
+    }
+
+-- a work that has the layer of a desk with a new command
+pub perform_works : (desk : DeskState) (old new : WorkState) (command : Command) (made : Option AnnId) (done undone : List Command) → IsWorkOf desk old → length desk.done < 4096 → apply old.conf (length old.text) old.layer command ≡ Ok (record { layer = new.layer; made = made }) → new.conf ≡ old.conf → new.text ≡ old.text → done ≡ desk.done ++ command ∷ [] → undone ≡ [] → IsWorkOf (with_scripts desk done undone) new
+perform_works desk old new command made done undone is few applied conf text more none =
+    let at = length desk.done in
+    let one : replay_from old.conf (length old.text) at old.layer (command ∷ []) ≡ Ok new.layer = ap (λ r. next at r (λ l. Ok l)) applied in
+    let all = one_more desk old.layer new.layer command at is.layer refl (sym (same_setting desk old at old.layer (command ∷ []) is) ∙ one) in
+    record {
+      is_desk =
+        subst (λ u. IsDesk (with_scripts desk done u)) (sym none)
+        (subst (λ d. IsDesk (with_scripts desk d [])) (sym more) (perform_keeps desk old.layer new.layer command is.is_desk few all));
+      conf = conf ∙ is.conf;
+      text = text ∙ is.text;
+      layer = ap (replay desk.conf (length desk.text) desk.base) more ∙ all;
+    }

@@ -7,6 +7,8 @@ ghost use Rattle.layer_undo.specs.Desks.{IsDesk, after_redo, after_undo, layer_o
 ghost use Rattle.layer_undo.specs.Replays.{replay};
 ghost use Rattle.layer_undo.specs.Starts.{IsDeskStart, IsRefused};
 
+use crate::moves::{copy_with_room, make_room, move_last};
+use crate::replay::{reopen_with, repeat_last};
 use crate::scripts::try_scripts;
 use crate::{DeskStart, Script};
 use annotation_conf::Conf;
@@ -146,8 +148,14 @@ impl Desk {
         ensures refused { IfErr result (IsRefused (performed self.old command)) }
         ensures kept { OnErr result (self.new ≡ self.old) }
     {
-        let _command = command;
-        Err(Refusal::Memory)
+        if self.done.len() >= 4096 {
+            return Err(Refusal::Rule(Rule::DeskFull));
+        }
+        let copy = copy_with_room(self.alloc, &command, &mut self.done)?;
+        let done = self.work.apply(command)?;
+        self.done.push_reserved(copy);
+        self.undone.clear();
+        Ok(done)
     }
 
     /// Takes the last command back. A refusal leaves the desk as it was: `NothingToUndo` where no command
@@ -157,7 +165,16 @@ impl Desk {
         ensures refused { IfErr result (IsRefused (after_undo self.old)) }
         ensures kept { OnErr result (self.new ≡ self.old) }
     {
-        Err(Refusal::Memory)
+        let count = self.done.len();
+        if count == 0 {
+            return Err(Refusal::Rule(Rule::NothingToUndo));
+        }
+        let kept = &self.done[..count - 1];
+        let work = reopen_with(self.alloc, &self.base, &self.doc, &self.conf, kept)?;
+        make_room(&mut self.undone)?;
+        move_last(&mut self.done, &mut self.undone);
+        self.work = work;
+        Ok(())
     }
 
     /// Carries the command that was undone last out again. A refusal leaves the desk as it was:
@@ -167,6 +184,13 @@ impl Desk {
         ensures refused { IfErr result (IsRefused (after_redo self.old)) }
         ensures kept { OnErr result (self.new ≡ self.old) }
     {
-        Err(Refusal::Memory)
+        if self.undone.is_empty() {
+            return Err(Refusal::Rule(Rule::NothingToRedo));
+        }
+        make_room(&mut self.done)?;
+        let at = self.done.len() as u32;
+        repeat_last(self.alloc, &mut self.work, at, &self.undone)?;
+        move_last(&mut self.undone, &mut self.done);
+        Ok(())
     }
 }
