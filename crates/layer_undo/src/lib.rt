@@ -16,12 +16,18 @@
 
 mod desk;
 mod desk_start;
+mod laws;
 mod moves;
 mod replay;
 mod script;
 mod scripts;
+mod worked_rows;
 
 pub use crate::desk::Desk;
 pub use crate::desk_start::DeskStart;
+pub use crate::laws::{
+    desks_stay_desks, redo_takes_undo_back, undo_takes_a_command_back, undos_and_redos_count,
+};
 pub use crate::script::Script;
 pub use crate::scripts::check_scripts;
+pub use crate::worked_rows::{examples_of_full_desks, examples_of_replays, examples_of_undo};
