@@ -42,7 +42,7 @@ pub few_commands : (desk : DeskState) → IsDesk desk → length desk.done + len
 few_commands desk is_desk =
     ⊎_elim
     (λ (many : 4096 < length desk.done + length desk.undone).
-        absurd (none-some (4096, DeskFull) (sym is_desk.accepted ∙ cond-true (nat_lt 4096 (length desk.done + length desk.undone)) (Some (4096, DeskFull)) (result_err (all_of desk)) (lt-ltb 4096 (length desk.done + length desk.undone) many))))
+    absurd (none-some (4096, DeskFull) (sym is_desk.accepted ∙ cond-true (nat_lt 4096 (length desk.done + length desk.undone)) (Some (4096, DeskFull)) (result_err (all_of desk)) (lt-ltb 4096 (length desk.done + length desk.undone) many))))
     (λ few. few)
     (cases_lt 4096 (length desk.done + length desk.undone))
 
@@ -64,9 +64,9 @@ undo_keeps desk command is_desk e =
     record {
       base = is_desk.base;
       accepted =
-        same_refusal desk.conf (length desk.text) desk.base (but_last desk.done) desk.undone command
-        ∙ ap (λ done. first_refusal desk.conf (length desk.text) desk.base done desk.undone) (sym (last_splits desk.done command e))
-        ∙ is_desk.accepted;
+          same_refusal desk.conf (length desk.text) desk.base (but_last desk.done) desk.undone command
+          ∙ ap (λ done. first_refusal desk.conf (length desk.text) desk.base done desk.undone) (sym (last_splits desk.done command e))
+          ∙ is_desk.accepted;
     }
 
 -- redo leaves a desk
@@ -75,9 +75,9 @@ redo_keeps desk command is_desk e =
     record {
       base = is_desk.base;
       accepted =
-        sym (same_refusal desk.conf (length desk.text) desk.base desk.done (but_last desk.undone) command)
-        ∙ ap (first_refusal desk.conf (length desk.text) desk.base desk.done) (sym (last_splits desk.undone command e))
-        ∙ is_desk.accepted;
+          sym (same_refusal desk.conf (length desk.text) desk.base desk.done (but_last desk.undone) command)
+          ∙ ap (first_refusal desk.conf (length desk.text) desk.base desk.done) (sym (last_splits desk.undone command e))
+          ∙ is_desk.accepted;
     }
 
 -- the done commands without the last are not refused
@@ -120,9 +120,9 @@ undo_works desk old new base kept done undone is same_base same_kept less more l
       conf = conf;
       text = text;
       layer =
-        ap (replay desk.conf (length desk.text) desk.base) (less ∙ sym same_kept)
-        ∙ ap (λ b. replay desk.conf (length desk.text) b kept) (sym same_base)
-        ∙ layer;
+          ap (replay desk.conf (length desk.text) desk.base) (less ∙ sym same_kept)
+          ∙ ap (λ b. replay desk.conf (length desk.text) b kept) (sym same_base)
+          ∙ layer;
     }
 
 -- the configuration and the text of a work are those of its desk
@@ -139,8 +139,8 @@ redo_works desk old new at done undone is place less more layer conf text =
       conf = conf ∙ is.conf;
       text = text ∙ is.text;
       layer =
-        ap (replay desk.conf (length desk.text) desk.base) (sym m.2)
-        ∙ one_more desk old.layer new.layer m.0 at is.layer place (sym (same_setting desk old at old.layer (m.0 ∷ []) is) ∙ layer m.0 m.1);
+          ap (replay desk.conf (length desk.text) desk.base) (sym m.2)
+          ∙ one_more desk old.layer new.layer m.0 at is.layer place (sym (same_setting desk old at old.layer (m.0 ∷ []) is) ∙ layer m.0 m.1);
     }
 
 -- the command that was undone last is not refused on a work that has the layer of the desk
@@ -163,8 +163,8 @@ perform_keeps desk layer made command is few e =
     record {
       base = is.base;
       accepted =
-        accepted desk.conf (length desk.text) desk.base (desk.done ++ command ∷ []) [] (omega (arith, more))
-        (ap (λ all. is_ok (replay desk.conf (length desk.text) desk.base all)) (append-nil (desk.done ++ command ∷ [])) ∙ ap is_ok e);
+          accepted desk.conf (length desk.text) desk.base (desk.done ++ command ∷ []) [] (omega (arith, more))
+          (ap (λ all. is_ok (replay desk.conf (length desk.text) desk.base all)) (append-nil (desk.done ++ command ∷ [])) ∙ ap is_ok e);
     }
 
 -- a work that has the layer of a desk with a new command
@@ -175,8 +175,8 @@ perform_works desk old new command made done undone is few applied conf text mor
     let all = one_more desk old.layer new.layer command at is.layer refl (sym (same_setting desk old at old.layer (command ∷ []) is) ∙ one) in
     record {
       is_desk =
-        subst (λ u. IsDesk (with_scripts desk done u)) (sym none)
-        (subst (λ d. IsDesk (with_scripts desk d [])) (sym more) (perform_keeps desk old.layer new.layer command is.is_desk few all));
+          subst (λ u. IsDesk (with_scripts desk done u)) (sym none)
+          (subst (λ d. IsDesk (with_scripts desk d [])) (sym more) (perform_keeps desk old.layer new.layer command is.is_desk few all));
       conf = conf ∙ is.conf;
       text = text ∙ is.text;
       layer = ap (replay desk.conf (length desk.text) desk.base) more ∙ all;

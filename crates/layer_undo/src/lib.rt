@@ -21,6 +21,8 @@ mod moves;
 mod replay;
 mod script;
 mod scripts;
+#[cfg(test)]
+mod tests;
 mod worked_rows;
 
 pub use crate::desk::Desk;

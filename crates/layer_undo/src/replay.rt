@@ -60,12 +60,7 @@ pub(crate) fn reopen(
 }
 
 /// Carries a copy of the command of this index out. A refusal leaves the work as it was.
-fn carry_out(
-    alloc: Global,
-    work: &mut Work,
-    at: u32,
-    command: &Command,
-) -> Result<(), DeskStart>
+fn carry_out(alloc: Global, work: &mut Work, at: u32, command: &Command) -> Result<(), DeskStart>
     ensures done { OnOk result (replay_from work.old.conf (length work.old.text) at work.old.layer (command.now ∷ []) ≡ Ok work.new.layer) }
     ensures stopped { IfErr result (IsStop (replay_from work.old.conf (length work.old.text) at work.old.layer (command.now ∷ []))) }
     ensures kept { OnErr result (work.new ≡ work.old) }
@@ -176,12 +171,7 @@ pub(crate) fn reopen_with(
 
 /// Carries a copy of a command out that is not refused. Want of memory leaves the work as it was. Cost: as
 /// the command.
-fn repeat_one(
-    alloc: Global,
-    work: &mut Work,
-    at: u32,
-    command: &Command,
-) -> Result<(), Memory>
+fn repeat_one(alloc: Global, work: &mut Work, at: u32, command: &Command) -> Result<(), Memory>
     requires { IsOk (replay_from work.old.conf (length work.old.text) at work.old.layer (command.now ∷ [])) }
     ensures done { OnOk result (replay_from work.old.conf (length work.old.text) at work.old.layer (command.now ∷ []) ≡ Ok work.new.layer) }
     ensures kept { OnErr result (work.new ≡ work.old) }

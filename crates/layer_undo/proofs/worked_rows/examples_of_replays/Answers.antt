@@ -8,7 +8,7 @@ returns-clause-none c = λ conf characters base. refl
 pub returns-clause-both : goal.returns-clause-both
 returns-clause-both c =
     λ conf characters base a b first second made more.
-        ap (λ r. next 0 r (λ layer. replay_from conf characters 1 layer (b ∷ []))) made ∙ ap (λ r. next 1 r (λ layer. replay_from conf characters 2 layer [])) more
+    ap (λ r. next 0 r (λ layer. replay_from conf characters 1 layer (b ∷ []))) made ∙ ap (λ r. next 1 r (λ layer. replay_from conf characters 2 layer [])) more
 
 pub returns-clause-at_first : goal.returns-clause-at_first
 returns-clause-at_first c =
@@ -17,7 +17,7 @@ returns-clause-at_first c =
 pub returns-clause-at_second : goal.returns-clause-at_second
 returns-clause-at_second c =
     λ conf characters base a b first rule made refused.
-        ap (λ r. next 0 r (λ layer. replay_from conf characters 1 layer (b ∷ []))) made ∙ ap (λ r. next 1 r (λ layer. replay_from conf characters 2 layer [])) refused
+    ap (λ r. next 0 r (λ layer. replay_from conf characters 1 layer (b ∷ []))) made ∙ ap (λ r. next 1 r (λ layer. replay_from conf characters 2 layer [])) refused
 
 pub returns-clause-undone_from_its_end : goal.returns-clause-undone_from_its_end
 returns-clause-undone_from_its_end c = λ conf characters base d e f. refl
