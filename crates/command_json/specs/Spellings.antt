@@ -1,0 +1,94 @@
+-- How numbers, IDs, fragments, names, arguments and entries of stores are spelt in the texts of a command.
+use Rattle.std.specs.Prelude.{ℕ, ◌==◌, Bool, List, [], ◌∷◌, map, drop, slice_index, Option, Some, None, is_none, if◌then◌else◌}
+use Rattle.std.specs.List.{list_any, before_first, after_first, slice_split}
+use Rattle.std.specs.Str.Parse.{digits_value}
+use Rattle.mark_base.specs.declared.ann_id.AnnId.{AnnId}
+use Rattle.mark_base.specs.declared.ann_id.Kind.{Kind}
+use Rattle.mark_base.specs.declared.ann_id.Kind.TheVariants as letter
+use Rattle.mark_base.specs.declared.fragments.Frag.{Frag}
+use Rattle.mark_base.specs.declared.named_args.NamedArg.{NamedArg}
+use Rattle.mark_base.specs.AnnIds.{is_canonical}
+use Rattle.mark_base.specs.Names.{name_fault}
+use Rattle.layer_core.specs.Ids.{id_at}
+use Rattle.command_json.specs.declared.spelling.StoreEntry.{StoreEntry}
+
+-- what is made of one part, where it is there
+abbrev pub of_one : {A Z : Type 0} → (A → Z) → Option A → Option Z
+of_one make (Some a) = Some (make a)
+of_one make None = None
+
+-- what is made of two parts, where both are there
+abbrev pub of_two : {A B Z : Type 0} → (A → B → Z) → Option A → Option B → Option Z
+of_two make (Some a) b = of_one (make a) b
+of_two make None b = None
+
+-- what is made of three parts, where all are there
+abbrev pub of_three : {A B C Z : Type 0} → (A → B → C → Z) → Option A → Option B → Option C → Option Z
+of_three make (Some a) b c = of_two (make a) b c
+of_three make None b c = None
+
+-- each of some, where each is there
+abbrev pub all_of : {X : Type 0} → List (Option X) → Option (List X)
+all_of [] = Some []
+all_of (one ∷ more) = of_two (λ x xs. x ∷ xs) one (all_of more)
+
+-- ---- a text by its parts
+
+-- a byte stands in a text
+abbrev pub has_byte : ℕ → List ℕ → Bool
+has_byte c text = list_any (λ b. b == c) text
+
+-- what stands before the first such byte
+abbrev pub before_byte : ℕ → List ℕ → List ℕ
+before_byte c text = before_first (λ b. b == c) text
+
+-- what stands behind the first such byte
+abbrev pub behind_byte : ℕ → List ℕ → List ℕ
+behind_byte c text = after_first (λ b. b == c) text
+
+-- ---- numbers, IDs and fragments (brat standoff manual: "Annotation ID conventions" and "Text-bound annotations")
+
+-- a number of one to nine decimal digits without a leading zero
+abbrev pub number_read : List ℕ → Option ℕ
+number_read digits = if is_canonical digits then Some (digits_value 10 digits) else None
+
+-- the sort of a letter
+abbrev pub kind_read : ℕ → Option Kind
+kind_read b =
+    if b == 84 then Some letter.Text else if b == 69 then Some letter.Event else if b == 82 then Some letter.Relation
+    else if b == 65 then Some letter.Attribute else if b == 77 then Some letter.Legacy else if b == 78 then Some letter.Normal
+    else if b == 35 then Some letter.Note else None
+
+-- the ID that a text spells: a letter and a number
+abbrev pub id_read : List ℕ → Option AnnId
+id_read text = of_two id_at (kind_read (slice_index text 0)) (number_read (drop 1 text))
+
+-- the fragment of a start and an end
+abbrev pub frag_of : ℕ → ℕ → Frag
+frag_of start end = record { start = start; end = end }
+
+-- the fragment that a text spells: its start, one space and its end
+abbrev pub frag_read : List ℕ → Option Frag
+frag_read text = if has_byte 32 text then of_two frag_of (number_read (before_byte 32 text)) (number_read (behind_byte 32 text)) else None
+
+-- the fragments that a text spells, joined by `;`
+abbrev pub frags_read : List ℕ → Option (List Frag)
+frags_read text = all_of (map frag_read (slice_split (λ b. b == 59) text))
+
+-- ---- names, arguments and entries
+
+-- the name that a text is
+abbrev pub name_read : List ℕ → Option (List ℕ)
+name_read text = if is_none (name_fault text) then Some text else None
+
+-- the argument of a role and a target
+abbrev pub argument_of : List ℕ → AnnId → NamedArg
+argument_of role target = record { role = role; target = target }
+
+-- the argument that a text spells: its role, `:` and the ID of its target
+abbrev pub argument_read : List ℕ → Option NamedArg
+argument_read text = if has_byte 58 text then of_two argument_of (name_read (before_byte 58 text)) (id_read (behind_byte 58 text)) else None
+
+-- the entry that a text spells: its store, `:` and the entry, in which `:` may stand too
+abbrev pub entry_read : List ℕ → Option StoreEntry
+entry_read text = if has_byte 58 text then Some (record { store = before_byte 58 text; entry = behind_byte 58 text }) else None
