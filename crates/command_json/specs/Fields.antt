@@ -1,5 +1,5 @@
 -- The fields of a body, which is a JSON object: each is a text, or a list of texts, that spells something.
-use Rattle.std.specs.Prelude.{ℕ, Bool, false, List, [], ◌∷◌, bytes_eq, Option, Some, None, option_and_then}
+use Rattle.std.specs.Prelude.{ℕ, Bool, false, List, [], ◌∷◌, bytes_eq, Option, Some, None, option_map, option_and_then}
 use Rattle.std.specs.List.{list_any, list_all}
 use Rattle.serde_json.specs.Data.{Data, object, Items, no_items, item, Members, no_members, member}
 use Rattle.serde_json.specs.Find.{get, as_str, as_array}
@@ -7,7 +7,7 @@ use Rattle.mark_base.specs.declared.ann_id.AnnId.{AnnId}
 use Rattle.mark_base.specs.declared.fragments.Frag.{Frag}
 use Rattle.mark_base.specs.declared.named_args.NamedArg.{NamedArg}
 use Rattle.command_json.specs.declared.spelling.StoreEntry.{StoreEntry}
-use Rattle.command_json.specs.Spellings.{of_one, of_two, id_read, frags_read, name_read, argument_read, entry_read}
+use Rattle.command_json.specs.Spellings.{of_two, id_read, frags_read, name_read, argument_read, entry_read}
 
 -- ---- which fields there are
 
@@ -37,7 +37,7 @@ name_at key body = option_and_then name_read (text_at key body)
 
 -- a name, or none where there is no value
 abbrev pub name_or_none : Option Data → Option (Option (List ℕ))
-name_or_none (Some value) = of_one Some (option_and_then name_read (as_str value))
+name_or_none (Some value) = option_map Some (option_and_then name_read (as_str value))
 name_or_none None = Some None
 
 -- the name at a key that may be absent

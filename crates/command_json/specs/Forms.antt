@@ -1,9 +1,9 @@
 -- The forms of the bodies that spell commands, one for each word of `do`.
-use Rattle.std.specs.Prelude.{ℕ, List, [], ◌∷◌, map, codes, bytes_eq, find, Option, None, if◌then◌else◌}
+use Rattle.std.specs.Prelude.{ℕ, List, [], ◌∷◌, map, codes, bytes_eq, find, Option, None, option_map, option_and_then, if◌then◌else◌}
 use Rattle.serde_json.specs.Data.{Data}
 use Rattle.layer_core.specs.declared.command.Command.{Command}
 use Rattle.layer_core.specs.declared.command.Command.TheVariants as ask
-use Rattle.command_json.specs.Spellings.{of_one, of_two, of_three}
+use Rattle.command_json.specs.Spellings.{of_two, of_three}
 use Rattle.command_json.specs.Fields.{has_only, text_at, name_at, name_if_there, ann_id_at, frags_at, argument_at, entry_at, ann_ids_at, arguments_at}
 
 -- a form: the word of `do`, the fields beside it, and the command that they spell, where each that has to be there is
@@ -79,7 +79,7 @@ abbrev pub clear_attribute : Form
 clear_attribute = record {
   word = codes "clear-attribute";
   fields = map codes ("id" ∷ []);
-  command = λ body. of_one ask.ClearAttribute (ann_id_at (codes "id") body);
+  command = λ body. option_map ask.ClearAttribute (ann_id_at (codes "id") body);
 }
 
 -- ---- classes
@@ -122,14 +122,14 @@ abbrev pub delete : Form
 delete = record {
   word = codes "delete";
   fields = map codes ("id" ∷ []);
-  command = λ body. of_one ask.Delete (ann_id_at (codes "id") body);
+  command = λ body. option_map ask.Delete (ann_id_at (codes "id") body);
 }
 
 abbrev pub purge : Form
 purge = record {
   word = codes "purge";
   fields = map codes ("id" ∷ []);
-  command = λ body. of_one ask.Purge (ann_id_at (codes "id") body);
+  command = λ body. option_map ask.Purge (ann_id_at (codes "id") body);
 }
 
 -- ---- all forms

@@ -1,5 +1,5 @@
 -- How numbers, IDs, fragments, names, arguments and entries of stores are spelt in the texts of a command.
-use Rattle.std.specs.Prelude.{ℕ, ◌==◌, Bool, List, [], ◌∷◌, map, drop, slice_index, Option, Some, None, is_none, if◌then◌else◌}
+use Rattle.std.specs.Prelude.{ℕ, ◌==◌, Bool, List, [], ◌∷◌, map, drop, slice_index, Option, Some, None, is_none, option_map, option_and_then, if◌then◌else◌}
 use Rattle.std.specs.List.{list_any, before_first, after_first, slice_split}
 use Rattle.std.specs.Str.Parse.{digits_value}
 use Rattle.mark_base.specs.declared.ann_id.AnnId.{AnnId}
@@ -12,20 +12,13 @@ use Rattle.mark_base.specs.Names.{name_fault}
 use Rattle.layer_core.specs.Ids.{id_at}
 use Rattle.command_json.specs.declared.spelling.StoreEntry.{StoreEntry}
 
--- what is made of one part, where it is there
-abbrev pub of_one : {A Z : Type 0} → (A → Z) → Option A → Option Z
-of_one make (Some a) = Some (make a)
-of_one make None = None
-
 -- what is made of two parts, where both are there
 abbrev pub of_two : {A B Z : Type 0} → (A → B → Z) → Option A → Option B → Option Z
-of_two make (Some a) b = of_one (make a) b
-of_two make None b = None
+of_two make one two = option_and_then (λ a. option_map (make a) two) one
 
 -- what is made of three parts, where all are there
 abbrev pub of_three : {A B C Z : Type 0} → (A → B → C → Z) → Option A → Option B → Option C → Option Z
-of_three make (Some a) b c = of_two (make a) b c
-of_three make None b c = None
+of_three make one two three = option_and_then (λ a. of_two (make a) two three) one
 
 -- each of some, where each is there
 abbrev pub all_of : {X : Type 0} → List (Option X) → Option (List X)
@@ -68,7 +61,7 @@ abbrev pub frag_of : ℕ → ℕ → Frag
 frag_of start end = record { start = start; end = end }
 
 -- the fragment that a text spells: its start, one space and its end
-abbrev pub frag_read : List ℕ → Option Frag
+unfoldable pub frag_read : List ℕ → Option Frag
 frag_read text = if has_byte 32 text then of_two frag_of (number_read (before_byte 32 text)) (number_read (behind_byte 32 text)) else None
 
 -- the fragments that a text spells, joined by `;`
@@ -86,7 +79,7 @@ abbrev pub argument_of : List ℕ → AnnId → NamedArg
 argument_of role target = record { role = role; target = target }
 
 -- the argument that a text spells: its role, `:` and the ID of its target
-abbrev pub argument_read : List ℕ → Option NamedArg
+unfoldable pub argument_read : List ℕ → Option NamedArg
 argument_read text = if has_byte 58 text then of_two argument_of (name_read (before_byte 58 text)) (id_read (behind_byte 58 text)) else None
 
 -- the entry that a text spells: its store, `:` and the entry, in which `:` may stand too

@@ -11,6 +11,8 @@
 
 mod command_body;
 mod command_fault;
+mod fields;
+mod lists;
 mod spelling;
 mod worked_rows;
 

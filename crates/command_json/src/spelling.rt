@@ -1,9 +1,161 @@
 //! How numbers, IDs, fragments, names, arguments and entries of stores are spelt in the texts of a command.
-use mark_base::Text;
+ghost use Rattle.std.specs.Prelude.{◌≡◌, ◌==◌, map, Some, IfOk, option_map};
+ghost use Rattle.std.specs.List.{slice_split};
+ghost use Rattle.std.specs.Str.{all_ascii_digits};
+ghost use Rattle.mark_base.specs.AnnIds.{is_canonical};
+ghost use Rattle.command_json.specs.Spellings.{of_two, all_of, number_read, id_read, frag_of, frag_read, frags_read, name_read, argument_of, argument_read, entry_read};
+
+use mark_base::{AnnId, Frag, FragList, Memory, Name, NameFault, NamedArg, Text};
+use std::alloc::{AllocError, Global};
+
+/// Whether these are decimal digits, or nothing.
+fn all_digits(digits: &[u8]) -> bool
+    ensures { result ≡ all_ascii_digits digits.now }
+{
+    for digit in digits {
+        if !digit.is_ascii_digit() {
+            return false;
+        }
+    }
+    true
+}
+
+/// Whether these are one to nine decimal digits without a leading zero.
+fn is_canonical(digits: &[u8]) -> bool
+    ensures { result ≡ is_canonical digits.now }
+{
+    let count = digits.len();
+    if count == 0 || count >= 10 {
+        return false;
+    }
+    let leads = count == 1 || digits[0] != b'0';
+    all_digits(digits) && leads
+}
+
+/// The number that digits spell: one to nine of them, without a leading zero.
+fn number_read(text: &str) -> Option<u32>
+    ensures { result ≡ number_read text.now }
+{
+    if is_canonical(text.as_bytes()) {
+        text.parse::<u32>().ok()
+    } else {
+        None
+    }
+}
+
+/// The ID that a text spells.
+pub(crate) fn id_read(text: &str) -> Option<AnnId>
+    ensures { result ≡ id_read text.now }
+{
+    AnnId::read(text.as_bytes())
+}
+
+/// The fragment of a start and an end.
+fn frag_between(start: &str, end: &str) -> Option<Frag>
+    ensures { result ≡ of_two frag_of (number_read start.now) (number_read end.now) }
+{
+    let start = number_read(start)?;
+    let end = number_read(end)?;
+    Some(Frag { start, end })
+}
+
+/// The fragment that a text spells: its start, one space and its end.
+#[tactic(auto, unfolding(crate::specs::Spellings::frag_read))]
+fn frag_read(text: &str) -> Option<Frag>
+    ensures { result ≡ frag_read text.now }
+{
+    match text.split_once(' ') {
+        Some((start, end)) => frag_between(start, end),
+        None => None,
+    }
+}
+
+/// What semicolons separate.
+fn split_fragments(alloc: Global, text: &str) -> Result<Vec<&str>, AllocError>
+    ensures { IfOk result (λ pieces. map (λ piece. piece.now) pieces.items ≡ slice_split (λ b. b == 59) text.now) }
+{
+    text.split(';').collect(alloc)
+}
+
+/// The fragments that pieces spell, where each spells one.
+fn all_frags(alloc: Global, pieces: &[&str]) -> Result<Option<Vec<Frag>>, Memory>
+    ensures { IfOk result (λ frags. option_map (λ list. list.items) frags ≡ all_of (map frag_read (map (λ piece. piece.now) pieces.now))) }
+{
+    let mut frags = Vec::new(alloc);
+    for piece in pieces {
+        match frag_read(piece) {
+            Some(frag) => frags.push(frag)?,
+            None => return Ok(None),
+        }
+    }
+    Ok(Some(frags))
+}
+
+/// The fragments that a text spells, joined by `;`.
+pub(crate) fn frags_read(alloc: Global, text: &str) -> Result<Option<FragList>, Memory>
+    ensures { IfOk result (λ frags. frags ≡ frags_read text.now) }
+{
+    let pieces = split_fragments(alloc, text)?;
+    match all_frags(alloc, &pieces)? {
+        Some(frags) => Ok(Some(FragList::from_vec(frags))),
+        None => Ok(None),
+    }
+}
+
+/// The name that a text is.
+pub(crate) fn name_read(alloc: Global, text: &str) -> Result<Option<Name>, Memory>
+    ensures { IfOk result (λ name. name ≡ name_read text.now) }
+{
+    match Name::new(alloc, text) {
+        Ok(name) => Ok(Some(name)),
+        Err(NameFault::Memory) => Err(Memory),
+        Err(NameFault::Empty) => Ok(None),
+        Err(NameFault::TooLong) => Ok(None),
+        Err(NameFault::BadChar(_)) => Ok(None),
+    }
+}
+
+/// The argument of a role and a target.
+fn argument_of(alloc: Global, role: &str, target: &str) -> Result<Option<NamedArg>, Memory>
+    ensures { IfOk result (λ arg. arg ≡ of_two argument_of (name_read role.now) (id_read target.now)) }
+{
+    let Some(role) = name_read(alloc, role)? else {
+        return Ok(None);
+    };
+    let Some(target) = id_read(target) else {
+        return Ok(None);
+    };
+    Ok(Some(NamedArg { role, target }))
+}
+
+/// The argument that a text spells: its role, `:` and the ID of its target.
+#[tactic(auto, unfolding(crate::specs::Spellings::argument_read))]
+pub(crate) fn argument_read(alloc: Global, text: &str) -> Result<Option<NamedArg>, Memory>
+    ensures { IfOk result (λ arg. arg ≡ argument_read text.now) }
+{
+    match text.split_once(':') {
+        Some((role, target)) => argument_of(alloc, role, target),
+        None => Ok(None),
+    }
+}
 
 /// An entry of a store.
 #[derive(Drop)]
 pub(crate) struct StoreEntry {
     pub store: Text,
     pub entry: Text,
+}
+
+/// The entry that a text spells: its store, `:` and the entry, in which `:` may stand too.
+pub(crate) fn entry_read(alloc: Global, text: &str) -> Result<Option<StoreEntry>, Memory>
+    ensures { IfOk result (λ entry. entry ≡ entry_read text.now) }
+{
+    match text.split_once(':') {
+        Some((store, entry)) => {
+            let store = Text::of(alloc, store)?;
+            let entry = Text::of(alloc, entry)?;
+            Ok(Some(StoreEntry { store, entry }))
+        }
+        None => Ok(None),
+    }
 }

@@ -1,0 +1,4 @@
+pub mod IdLemmas
+pub mod KeyLemmas
+pub mod NumberLemmas
+pub mod TextLemmas

@@ -1,0 +1,6 @@
+use Rattle.std.proofs.Common.{rules, ◌==◌, cond, Some, None, sym, ap}
+use Rattle.command_json.proofs.TextLemmas.{none_there}
+use Rattle.command_json.proofs.spelling.entry_read.Goals as goal
+
+pub returns-in-None : goal.returns-in-None
+returns-in-None c = search (rules, none_there)
