@@ -1,5 +1,5 @@
 -- The ID that a text spells is the one that `AnnId::read` reads.
-use Rattle.std.proofs.Common.{ℕ, ◌≤◌, ◌≡◌, ◌≢◌, ◌==◌, Bool, true, false, cond, List, [], ◌∷◌, Option, Some, None, IfSome, IfNone, decimal, refl, sym, subst, ◌∙◌, ap, ap₂}
+use Rattle.std.proofs.Common.{ℕ, ◌≤◌, ◌≡◌, ◌≢◌, ◌==◌, Bool, true, false, cond, List, [], ◌∷◌, Option, Some, None, IfSome, IfNone, refl, sym, subst, ◌∙◌, ap, ap₂}
 use Rattle.std.specs.Str.Parse.{digits_value}
 use Rattle.std.proofs.lemmas.Bool.{cond_both, eqb-true}
 use Rattle.mark_base.specs.declared.ann_id.AnnId.{AnnId}

@@ -1,4 +1,5 @@
-pub mod IdLemmas
-pub mod KeyLemmas
-pub mod NumberLemmas
-pub mod TextLemmas
+mod IdLemmas
+mod KeyLemmas
+mod NumberLemmas
+mod TextLemmas
+mod ValueLemmas

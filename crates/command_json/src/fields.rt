@@ -123,11 +123,7 @@ pub(crate) fn argument_at(
 }
 
 /// The entry of a store at a key.
-pub(crate) fn entry_at(
-    alloc: Global,
-    body: &Value,
-    key: &str,
-) -> Result<Option<StoreEntry>, Memory>
+pub(crate) fn entry_at(alloc: Global, body: &Value, key: &str) -> Result<Option<StoreEntry>, Memory>
     ensures { IfOk result (λ entry. entry ≡ entry_at key.now (view body.now)) }
 {
     match text_at(body, key) {

@@ -11,8 +11,12 @@
 
 mod command_body;
 mod command_fault;
+mod event_forms;
 mod fields;
+mod link_forms;
 mod lists;
+mod note_forms;
+mod span_forms;
 mod spelling;
 mod worked_rows;
 

@@ -1,4 +1,4 @@
-use Rattle.std.proofs.Common.{rules, ◌==◌, cond, Some, None, sym, ap}
+use Rattle.std.proofs.Common.{rules}
 use Rattle.command_json.proofs.TextLemmas.{none_there}
 use Rattle.command_json.proofs.spelling.entry_read.Goals as goal
 
