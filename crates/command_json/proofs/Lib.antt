@@ -1,5 +1,6 @@
 mod IdLemmas
 mod KeyLemmas
+mod LoadLemmas
 mod NumberLemmas
 mod TextLemmas
 mod ValueLemmas

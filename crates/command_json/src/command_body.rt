@@ -77,9 +77,11 @@ fn spelt_command(alloc: Global, body: &[u8]) -> Result<Option<Command>, Memory>
     }
 }
 
-/// Reads a command from the body of a message: a JSON object of one of the forms of `docs/http.md`. Bodies
-/// that are not UTF-8, JSON that is nested deeper than 127 levels and numbers beyond the range of a float are
-/// bodies of no form. Cost: the length of the body.
+/// Reads a command from the body of a message: a JSON object of one of the forms of `specs/Forms.antt`, in
+/// which the last value of a repeated key counts. Names, IDs and fragments are tested by their spelling alone,
+/// and not against a configuration or a layer. Bytes that are not UTF-8 are a body of no form, and so is JSON
+/// that nests deeper than 127 levels or has a number beyond the range of a float, wherever that stands.
+/// Cost: the length of the body times the logarithm of the number of its keys.
 pub fn read_command(alloc: Global, body: &[u8]) -> Result<Command, CommandFault>
     ensures command { IfOk result (λ command. command_of body.now ≡ Some command) }
     ensures fault { IfErr result (λ fault. fault ≡ BadBody → command_of body.now ≡ None) }

@@ -13,13 +13,17 @@ mod command_body;
 mod command_fault;
 mod event_forms;
 mod fields;
+mod laws;
 mod link_forms;
 mod lists;
 mod note_forms;
 mod span_forms;
 mod spelling;
+#[cfg(test)]
+mod tests;
 mod worked_rows;
 
 pub use crate::command_body::read_command;
 pub use crate::command_fault::CommandFault;
+pub use crate::laws::no_body_loads_a_layer;
 pub use crate::worked_rows::examples_of_bodies;

@@ -147,10 +147,10 @@ pub(crate) struct StoreEntry {
 }
 
 /// The entry that a text spells: its store, `:` and the entry, in which `:` may stand too.
-pub(crate) fn entry_read(alloc: Global, text: &str) -> Result<Option<StoreEntry>, Memory>
-    ensures { IfOk result (λ entry. entry ≡ entry_read text.now) }
+pub(crate) fn entry_read(alloc: Global, named: &str) -> Result<Option<StoreEntry>, Memory>
+    ensures { IfOk result (λ entry. entry ≡ entry_read named.now) }
 {
-    match text.split_once(':') {
+    match named.split_once(':') {
         Some((store, entry)) => {
             let store = Text::of(alloc, store)?;
             let entry = Text::of(alloc, entry)?;
