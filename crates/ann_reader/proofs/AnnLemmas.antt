@@ -17,9 +17,9 @@ use Rattle.ann_reader.specs.References.{references, own_word, own_id, is_own_mis
 use Rattle.ann_reader.specs.Marks.{said_of}
 use Rattle.ann_reader.specs.LineFaults.{is_headed, headed_by, is_twice, line_fault, first_line_fault, count_like}
 use Rattle.ann_reader.specs.AnnFaults.{with_line, layer_of}
-use Rattle.ann_reader.specs.AnnFiles.{HasMark, is_line_of}
+use Rattle.ann_reader.specs.AnnFiles.{HasMark, is_line_of, is_span_word}
 use Rattle.ann_reader.proofs.SaidLemmas.{line_puts, lines_keep, lines_came, none_there}
-use Rattle.ann_reader.proofs.CleanLemmas.{Found, Clean, clean, own_found, marked, said_found, later_none, unmapped}
+use Rattle.ann_reader.proofs.CleanLemmas.{Found, Clean, clean, own_found, trigger_fits, marked, said_found, later_none, unmapped}
 use Rattle.ann_reader.proofs.FormFacts.{own_first, sorts_fit}
 
 -- ---- the numbers of lines rise
@@ -45,17 +45,17 @@ lines_rise n (piece ∷ pieces) =
 abbrev pub Below : ℕ → List Line → Type 0
 Below n lines = AllByRecursion (λ line. line.number < n) lines
 
-raise : (a b : ℕ) (lines : List Line) → a ≤ b → Below a lines → Below b lines
+pub raise : (a b : ℕ) (lines : List Line) → a ≤ b → Below a lines → Below b lines
 raise a b [] h r = tt
 raise a b (line ∷ lines) h r = (omega (arith, h, r.0), raise a b lines h r.1)
 
-below_push : (n : ℕ) (lines : List Line) (line : Line) → Below n lines → line.number < n → Below n (lines ++ line ∷ [])
+pub below_push : (n : ℕ) (lines : List Line) (line : Line) → Below n lines → line.number < n → Below n (lines ++ line ∷ [])
 below_push n [] line r h = (h, tt)
 below_push n (first ∷ lines) line r h = (r.0, below_push n lines line r.1 h)
 
 -- ---- no earlier line has the ID
 
-heads : (id : AnnId) (line : Line) → is_line_of id line ≡ true → is_headed id line ≡ true
+pub heads : (id : AnnId) (line : Line) → is_line_of id line ≡ true → is_headed id line ≡ true
 heads id line h =
     let P : Option AnnId → Type 0 = λ o. own_id (form_of line.bytes) ≡ o → option_map_or (is_id id) o false ≡ true → is_headed id line ≡ true in
     let cases : P (own_id (form_of line.bytes)) = elim (own_id (form_of line.bytes)) as P [
@@ -90,13 +90,14 @@ all_clean conf all before (line ∷ lines) e =
 
 -- ---- each line has its annotation
 
--- the layer has what the line spells, or the line says something of a class
+-- the layer has what the line spells, the trigger of an event being a span, or the line says something of a class
 abbrev pub Holds : Configuration → Annotations → Form → Type 0
 Holds conf layer BadForm = ⊥
 Holds conf layer (ClassForm kind ids) = IsSome (said_of conf (ClassForm kind ids))
+Holds conf layer (EventForm first kind trigger pairs) = HasMark conf layer (EventForm first kind trigger pairs) × (is_span_word trigger ≡ true)
 Holds conf layer form = HasMark conf layer form
 
-is_new : (conf : Configuration) (all before rest : List Line) (line : Line) (id : AnnId)
+pub is_new : (conf : Configuration) (all before rest : List Line) (line : Line) (id : AnnId)
     → all ≡ before ++ line ∷ rest → Below line.number before → own_id (form_of line.bytes) ≡ Some id → is_twice all line ≡ false
     → has (layer_of conf before) id ≡ false
 is_new conf all before rest line id e below own once =
@@ -113,7 +114,7 @@ is_new conf all before rest line id e below own once =
       ]
     ]
 
-own_spelt : (conf : Configuration) (all : List Line) (line : Line) (form : Form) → Clean conf all line form → is_own_misspelt form ≡ false
+pub own_spelt : (conf : Configuration) (all : List Line) (line : Line) (form : Form) → Clean conf all line form → is_own_misspelt form ≡ false
 own_spelt conf all line form good = (or_parts (is_own_misspelt form) (list_any is_misspelt (references form)) good.spelt).0
 
 held_one : (conf : Configuration) (all before rest : List Line) (line : Line) (word : List ℕ)
@@ -146,7 +147,7 @@ holds_one conf all before rest line e below good =
       | BadForm ↦ λ f c. false≢true (sym c.formed)
       | ClassForm kind ids ↦ λ f c. said_some conf kind ids (said_found conf all line kind ids c)
       | TextForm a b c d ↦ λ f _. subst (HasMark conf (layer_of conf all)) f (mine a (ap own_word f))
-      | EventForm a b c d ↦ λ f _. subst (HasMark conf (layer_of conf all)) f (mine a (ap own_word f))
+      | EventForm a b c d ↦ λ f cl. (subst (HasMark conf (layer_of conf all)) f (mine a (ap own_word f)), trigger_fits conf all line a b c d cl)
       | RelationForm a b c d ↦ λ f _. subst (HasMark conf (layer_of conf all)) f (mine a (ap own_word f))
       | AttributeForm a b c d ↦ λ f _. subst (HasMark conf (layer_of conf all)) f (mine a (ap own_word f))
       | NormalForm a b c d x ↦ λ f _. subst (HasMark conf (layer_of conf all)) f (mine a (ap own_word f))

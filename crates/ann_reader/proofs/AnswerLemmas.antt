@@ -53,7 +53,7 @@ bytes_faulty conf text bytes valid count same less counted =
     ∙ ap (λ n. Some (record { line = n + 1; what = NotUtf8 })) (sym counted)
 
 -- bytes that are a text
-text_faulty : (conf : Configuration) (text bytes : List ℕ) → IsUtf8 bytes → lines_fault conf text (lines_of bytes) ≡ ann_fault conf text bytes
+pub text_faulty : (conf : Configuration) (text bytes : List ℕ) → IsUtf8 bytes → lines_fault conf text (lines_of bytes) ≡ ann_fault conf text bytes
 unfolding ann_fault
 text_faulty conf text bytes valid =
     sym (cond-false (nat_lt (utf8_valid_len bytes) (length bytes)) _ _ (le-ltb (utf8_valid_len bytes) (length bytes) (omega (arith, utf8_valid_len-IsUtf8 bytes valid))))

@@ -1,8 +1,8 @@
 -- A line without a fault spells an annotation or says something of a class.
 use Rattle.std.proofs.Common.{◌≡◌, ℕ, Bool, true, false, not, ◌&&◌, List, [], ◌∷◌, refl, sym, ◌∙◌, ap, subst, Option, Some, None, cond, map, length}
 use Rattle.std.specs.Option.{is_none, option_map_or, option_or, option_and_then, option_map}
-use Rattle.std.specs.List.{list_any}
-use Rattle.std.proofs.lemmas.Bool.{or_parts}
+use Rattle.std.specs.List.{list_any, find, filter_map, cons_option}
+use Rattle.std.proofs.lemmas.Bool.{or_parts, not-false}
 use Rattle.mark_base.specs.declared.ann_id.AnnId.{AnnId}
 use Rattle.mark_base.specs.declared.places.TypeId.{TypeId}
 use Rattle.mark_base.specs.declared.arguments.Arg.{Arg}
@@ -11,18 +11,21 @@ use Rattle.annotation_conf.specs.Lookups.{values_of}
 use Rattle.layer_model.specs.declared.mark.Mark.{Mark}
 use Rattle.layer_model.specs.declared.mark.Mark.TheVariants as sort
 use Rattle.layer_model.specs.declared.rule.Rule.{Rule}
-use Rattle.layer_model.specs.declared.rule.Rule.TheVariants.{UnknownType, UnknownRole, UnknownValue}
+use Rattle.layer_model.specs.declared.rule.Rule.TheVariants.{UnknownType, NotForUse, UnknownRole, UnknownValue}
+use Rattle.layer_model.specs.Coherent.{is_span_letter}
 use Rattle.layer_core.specs.Fields.{Valued, Undeclared, Declared, value_refused}
-use Rattle.layer_core.specs.Rules.{where_so}
+use Rattle.layer_core.specs.Rules.{where_so, Wanted, first_unwanted}
 use Rattle.ann_reader.specs.declared.ann_fault.AnnWhat.TheVariants.{BadLine, BadId, IdTwice, Broken}
 use Rattle.ann_reader.specs.Roles.{role_read}
 use Rattle.ann_reader.specs.Lines.{Line}
 use Rattle.ann_reader.specs.Words.{id_read, all_of}
 use Rattle.ann_reader.specs.NamesRead.{type_read, event_read, relation_read, attribute_read, value_read}
 use Rattle.ann_reader.specs.Forms.{Pair, Form, BadForm, TextForm, EventForm, RelationForm, AttributeForm, ClassForm, NormalForm, NoteForm, form_of}
-use Rattle.ann_reader.specs.References.{references, of_letters, own_word, own_id, is_own_misspelt, is_misspelt}
+use Rattle.ann_reader.specs.References.{Reference, references, may_stand, of_letters, own_word, own_id, is_own_misspelt, is_misspelt}
 use Rattle.ann_reader.specs.Marks.{arg_of, args_of, arg_by, Ends, ends_of, is_role, span_by, event_by, relation_by, attribute_by, normal_by, mark_of, said_of, said_by}
-use Rattle.ann_reader.specs.LineFaults.{is_bad_line, has_bad_id, is_twice, has_unknown_type, has_unknown_role, has_unknown_value, line_rule, line_fault, naming_rule, value_rule}
+use Rattle.ann_reader.specs.LineFaults.{is_bad_line, has_bad_id, is_twice, has_unknown_type, has_barred_type, first_absent, first_unfit, wanted_of, has_unknown_role, has_unknown_value, line_rule, line_fault, naming_rule, value_rule}
+use Rattle.ann_reader.specs.AnnFiles.{is_span_word}
+use Rattle.ann_reader.specs.declared.letters.Letters.{Letters}
 use Rattle.ann_reader.specs.declared.letters.Letters.TheVariants.{Spans, SpansOrEvents}
 
 -- something that is there
@@ -48,6 +51,7 @@ pub record Clean (conf : Configuration) (all : List Line) (line : Line) (form : 
   pub types : has_unknown_type conf form ≡ false
   pub roles : has_unknown_role conf form ≡ false
   pub values : has_unknown_value conf form ≡ false
+  pub letters : first_unfit (references form) ≡ None
 
 step : {X : Type 0} (a : X) (b : Bool) (o : Option X) → cond b (Some a) o ≡ None → (b ≡ false) × (o ≡ None)
 step a true o e = absurd (not_some e)
@@ -74,11 +78,33 @@ clean conf all before line e =
     let c = step IdTwice (is_twice all line) (option_map Broken (line_rule conf all before line form)) b.1 in
     let rules = later_none (naming_rule conf all form) (value_rule conf before line form) (unmapped Broken (line_rule conf all before line form) c.1) in
     let names = first_none (has_unknown_type conf form) UnknownType _ rules.0 in
+    let uses = first_none (has_barred_type conf form) NotForUse _ names.1 in
+    let there = later_none (first_absent all (references form)) _ uses.1 in
+    let fit = later_none (first_unfit (references form)) None there.1 in
     let role = first_none (has_unknown_role conf form) UnknownRole _ rules.1 in
     let value = first_none (has_unknown_value conf form) UnknownValue _ role.1 in
-    record { formed = a.0; spelt = b.0; once = c.0; types = names.0; roles = role.0; values = value.0 }
+    record { formed = a.0; spelt = b.0; once = c.0; types = names.0; roles = role.0; values = value.0; letters = fit.0 }
 
 -- ---- the IDs that it names
+
+-- the first of some IDs is of a letter that fits
+first_fits : (letters : Letters) (word : List ℕ) (more : List Reference) (id : AnnId) → id_read word ≡ Some id
+    → first_unfit (of_letters letters word ∷ more) ≡ None → may_stand letters id.kind ≡ true
+first_fits letters word more id e f =
+    let wanted : AnnId → Wanted = λ one. record { id = one; fits = may_stand letters one.kind } in
+    let rest = filter_map wanted_of more in
+    let g : first_unwanted (wanted id ∷ rest) ≡ None = sym (ap (λ o. first_unwanted (cons_option (option_map wanted o) rest)) e) ∙ f in
+    not-false (may_stand letters id.kind) (step (wanted id) (not (may_stand letters id.kind)) (find (λ one. not one.fits) rest) (unmapped _ (find (λ one. not one.fits) (wanted id ∷ rest)) g)).0
+
+-- the trigger of an event is a span
+pub trigger_fits : (conf : Configuration) (all : List Line) (line : Line) (first kind trigger : List ℕ) (pairs : List Pair)
+    → Clean conf all line (EventForm first kind trigger pairs) → is_span_word trigger ≡ true
+trigger_fits conf all line first kind trigger pairs clean =
+    let spelt = or_parts (is_own_misspelt (EventForm first kind trigger pairs)) (list_any is_misspelt (references (EventForm first kind trigger pairs))) clean.spelt in
+    let ids = or_parts (is_none (id_read trigger)) (list_any is_misspelt (map (λ pair. of_letters SpansOrEvents pair.target) pairs)) spelt.1 in
+    let own = found (id_read trigger) ids.0 in
+    ap (λ o. option_map_or (λ (id : AnnId). is_span_letter id.kind) o false) own.1
+    ∙ first_fits Spans trigger (map (λ pair. of_letters SpansOrEvents pair.target) pairs) own.0 own.1 clean.letters
 
 pub own_found : (form : Form) (word : List ℕ) → own_word form ≡ Some word → is_own_misspelt form ≡ false → Found (own_id form)
 own_found form word e f =

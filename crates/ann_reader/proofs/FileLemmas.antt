@@ -44,11 +44,11 @@ all_once : (conf : Configuration) (all lines : List Line) → AllClean conf all 
 all_once conf all [] c = tt
 all_once conf all (line ∷ lines) c = (c.0.once, all_once conf all lines c.1)
 
-come_in : (conf : Configuration) (lines : List Line) (id : AnnId) → has (layer_of conf lines) id ≡ true → list_any (is_line_of id) lines ≡ true
+pub come_in : (conf : Configuration) (lines : List Line) (id : AnnId) → has (layer_of conf lines) id ≡ true → list_any (is_line_of id) lines ≡ true
 come_in conf lines id h =
     elim (lines_came conf no_marks lines id h) as (λ _. list_any (is_line_of id) lines ≡ true) [ inl t ↦ absurd (none_there id t) | inr t ↦ t ]
 
-rising : (bytes : List ℕ) → Rises 1 (lines_of bytes)
+pub rising : (bytes : List ℕ) → Rises 1 (lines_of bytes)
 unfolding lines_of
 rising bytes = lines_rise 1 (slice_split (λ b. b == 10) bytes)
 

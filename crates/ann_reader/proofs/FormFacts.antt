@@ -32,7 +32,7 @@ Fits b first (TextForm own _ _ _) = (own ≡ first) × (b ≡ 84)
 Fits b first (EventForm own _ _ _) = (own ≡ first) × (b ≡ 69)
 Fits b first (RelationForm own _ _ _) = (own ≡ first) × (b ≡ 82)
 Fits b first (AttributeForm own _ _ _) = (own ≡ first) × ((b ≡ 65) ⊎ (b ≡ 77))
-Fits b first (ClassForm _ ids) = 0 < length ids
+Fits b first (ClassForm _ ids) = (b ≡ 42) × (0 < length ids)
 Fits b first (NormalForm own _ _ _ _) = (own ≡ first) × (b ≡ 78)
 Fits b first (NoteForm own _ _ _) = (own ≡ first) × (b ≡ 35)
 
@@ -64,11 +64,11 @@ at_attribute b first (kind ∷ target ∷ []) e = (refl, e)
 at_attribute b first (kind ∷ target ∷ value ∷ []) e = (refl, e)
 at_attribute b first (kind ∷ target ∷ value ∷ more ∷ words) e = tt
 
-at_class : (b : ℕ) (first : List ℕ) (words : List (List ℕ)) → Fits b first (class_by first words)
-at_class b first [] = tt
-at_class b first (kind ∷ []) = tt
-at_class b first (kind ∷ member ∷ members) =
-    elim (bytes_eq first (42 ∷ [])) as (λ s. Fits b first (cond s (ClassForm kind (member ∷ members)) BadForm)) [ true ↦ omega arith | false ↦ tt ]
+at_class : (b : ℕ) (first : List ℕ) (words : List (List ℕ)) → b ≡ 42 → Fits b first (class_by first words)
+at_class b first [] e = tt
+at_class b first (kind ∷ []) e = tt
+at_class b first (kind ∷ member ∷ members) e =
+    elim (bytes_eq first (42 ∷ [])) as (λ s. Fits b first (cond s (ClassForm kind (member ∷ members)) BadForm)) [ true ↦ (e, omega arith) | false ↦ tt ]
 
 at_normal : (b : ℕ) (first : List ℕ) (words : List (List ℕ)) (text : List ℕ) → b ≡ 78 → Fits b first (normal_by first words text)
 at_normal b first [] text e = tt
@@ -109,7 +109,7 @@ two_fits b first second h =
     let P : Bool → Type 0 = λ s. (b == 69) ≡ s → Fits b first (cond s (event_form first second) (cond (b == 82) (relation_form first second) (cond (b == 42) (class_form first second) (attribute_form first second)))) in
     let Q : Bool → Type 0 = λ s. (b == 82) ≡ s → (b == 69) ≡ false → Fits b first (cond s (relation_form first second) (cond (b == 42) (class_form first second) (attribute_form first second))) in
     let R : Bool → Type 0 = λ s. (b == 42) ≡ s → (b == 69) ≡ false → (b == 82) ≡ false → Fits b first (cond s (class_form first second) (attribute_form first second)) in
-    let third : R (b == 42) = elim (b == 42) as R [ true ↦ λ r p q. at_class b first (words_of second) | false ↦ λ r p q. at_attribute b first (words_of second) (others p q r) ] in
+    let third : R (b == 42) = elim (b == 42) as R [ true ↦ λ r p q. at_class b first (words_of second) (eqb-true b 42 r) | false ↦ λ r p q. at_attribute b first (words_of second) (others p q r) ] in
     let next : Q (b == 82) = elim (b == 82) as Q [ true ↦ λ q p. at_relation b first (words_of second) (eqb-true b 82 q) | false ↦ λ q p. third refl p q ] in
     let cases : P (b == 69) = elim (b == 69) as P [ true ↦ λ p. at_event b first (pairs_read (words_of second)) (eqb-true b 69 p) | false ↦ λ p. next refl p ] in
     cases refl
@@ -156,7 +156,7 @@ names_some line =
       | EventForm _ _ _ _ ↦ λ _. tt
       | RelationForm _ _ _ _ ↦ λ _. tt
       | AttributeForm _ _ _ _ ↦ λ _. tt
-      | ClassForm _ _ ↦ λ f. f
+      | ClassForm _ _ ↦ λ f. f.1
       | NormalForm _ _ _ _ _ ↦ λ _. tt
       | NoteForm _ _ _ _ ↦ λ _. tt
     ]) (form_fits line)
@@ -175,7 +175,7 @@ kind_of_id kind None id e = let lost : None ≡ Some id = e in cc
 kind_of_id kind (Some n) id e = ap (λ (o : Option AnnId). option_map_or (λ (one : AnnId). one.kind) o kind) e
 
 -- an ID that is read is of the sort of its first byte
-id_kind : (word : List ℕ) (id : AnnId) → id_read word ≡ Some id → kind_read (slice_index word 0) ≡ Some id.kind
+pub id_kind : (word : List ℕ) (id : AnnId) → id_read word ≡ Some id → kind_read (slice_index word 0) ≡ Some id.kind
 id_kind word id e =
     let P : Option Kind → Type 0 = λ o. option_and_then (λ kind. option_map (id_at kind) (number_read (drop 1 word))) o ≡ Some id → o ≡ Some id.kind in
     let cases : P (kind_read (slice_index word 0)) = elim (kind_read (slice_index word 0)) as P [
@@ -308,3 +308,24 @@ sorts_fit conf line id mark e m =
       | NormalForm own target store entry text ↦ λ f q. in_sort mark letter.Normal id (normal_sort conf own target store entry text mark q) (sort_of_line line id 78 letter.Normal f.1 refl refl (own_first line id e))
       | NoteForm own kind target text ↦ λ f q. in_sort mark letter.Note id (note_sort conf own kind target text mark q) (sort_of_line line id 35 letter.Note f.1 refl refl (own_first line id e))
     ]) (form_fits line) m
+
+-- the letter that a line begins with is that of its ID
+pub letter_at : (line : List ℕ) (id : AnnId) → own_id (form_of line) ≡ Some id → kind_read (slice_index line 0) ≡ Some id.kind
+letter_at line id e =
+    (elim (form_of line) as (λ form. Fits (slice_index line 0) (first_field line) form → own_id form ≡ Some id → kind_read (slice_index line 0) ≡ Some id.kind) [
+      | BadForm ↦ λ f q. absurd (nothing_said q)
+      | TextForm own kind frags text ↦ λ f q. ap kind_read f.1 ∙ ap Some (sym (sort_of_line line id 84 letter.Text f.1 refl refl (own_first line id e)))
+      | EventForm own kind trigger pairs ↦ λ f q. ap kind_read f.1 ∙ ap Some (sym (sort_of_line line id 69 letter.Event f.1 refl refl (own_first line id e)))
+      | RelationForm own kind a b ↦ λ f q. ap kind_read f.1 ∙ ap Some (sym (sort_of_line line id 82 letter.Relation f.1 refl refl (own_first line id e)))
+      | AttributeForm own kind target value ↦ λ f q. elim f.1 as (λ _. kind_read (slice_index line 0) ≡ Some id.kind) [
+        | inl t ↦ ap kind_read t ∙ ap Some (sym (sort_of_line line id 65 letter.Attribute t refl refl (own_first line id e)))
+        | inr t ↦ ap kind_read t ∙ ap Some (sym (sort_of_line line id 77 letter.Legacy t refl refl (own_first line id e)))
+      ]
+      | ClassForm kind ids ↦ λ f q. absurd (nothing_said q)
+      | NormalForm own target store entry text ↦ λ f q. ap kind_read f.1 ∙ ap Some (sym (sort_of_line line id 78 letter.Normal f.1 refl refl (own_first line id e)))
+      | NoteForm own kind target text ↦ λ f q. ap kind_read f.1 ∙ ap Some (sym (sort_of_line line id 35 letter.Note f.1 refl refl (own_first line id e)))
+    ]) (form_fits line) e
+
+-- a line of a class begins with none
+pub class_letter : (line : List ℕ) (kind : List ℕ) (ids : List (List ℕ)) → form_of line ≡ ClassForm kind ids → slice_index line 0 ≡ 42
+class_letter line kind ids e = (subst (Fits (slice_index line 0) (first_field line)) e (form_fits line)).0

@@ -28,7 +28,7 @@ said_marks : (l : Annotations) (said : Option Said) (kind : Kind) (n : ℕ) → 
 said_marks l None kind n = refl
 said_marks l (Some said) kind n = marks_stay l (joined (record { n = said.kind }) said.members l.classes) kind n
 
-said_numbers : (l : Annotations) (said : Option Said) (kind : Kind) (n : ℕ) → has_number (with_said l said) kind n ≡ has_number l kind n
+pub said_numbers : (l : Annotations) (said : Option Said) (kind : Kind) (n : ℕ) → has_number (with_said l said) kind n ≡ has_number l kind n
 said_numbers l None kind n = refl
 said_numbers l (Some said) kind n = numbers_stay l (joined (record { n = said.kind }) said.members l.classes) kind n
 
@@ -48,7 +48,7 @@ read_puts : (l : Annotations) (id : AnnId) (mark : Mark) → is_of_kind id.kind 
 read_puts l id mark fits new =
     ap (λ b. mark_at (cond b l (with_mark l id mark)) id) new ∙ stands_here l id.kind id.number mark fits
 
-read_came : (l : Annotations) (own : Option AnnId) (mark : Option Mark) (kind : Kind) (n : ℕ)
+pub read_came : (l : Annotations) (own : Option AnnId) (mark : Option Mark) (kind : Kind) (n : ℕ)
     → has_number (with_read l own mark) kind n ≡ true → (has_number l kind n ≡ true) ⊎ ((id : AnnId) × (own ≡ Some id) × (kind ≡ id.kind) × (n ≡ id.number))
 read_came l None mark kind n h = inl h
 read_came l (Some id) None kind n h = inl h
@@ -120,7 +120,7 @@ empty_has : (X : Type 0) (n : ℕ) → is_some (finite.get (finite.empty {K = �
 empty_has X n h =
     let none : is_some (finite.get (finite.empty {K = ℕ} {X = X} {R = nat_cmp}) n) ≡ false = ap is_some (get-empty nat_cmp n) in cc
 
-none_of : (kind : Kind) (n : ℕ) → has_number no_marks kind n ≡ true → ⊥
+pub none_of : (kind : Kind) (n : ℕ) → has_number no_marks kind n ≡ true → ⊥
 none_of letter.Text n h = empty_has _ n h
 none_of letter.Event n h = empty_has _ n h
 none_of letter.Relation n h = empty_has _ n h

@@ -57,7 +57,7 @@ all_lie text frag (next ∷ more) a e =
     let within : frag.end ≤ length text = omega arith in
     and_from (lies_in text frag) (all_lie_in text (next ∷ more)) (lies text frag (first_up frag (next ∷ more) a) within) (all_lie text next more abc.1 e)
 
-unbroken : (b : Bool) (rule : Rule) → where_so b rule ≡ None → b ≡ false
+pub unbroken : (b : Bool) (rule : Rule) → where_so b rule ≡ None → b ≡ false
 unbroken true rule e = absurd (not_some e)
 unbroken false rule e = refl
 

@@ -15,13 +15,22 @@ use Rattle.layer_model.specs.declared.mark.Mark.{Mark}
 use Rattle.layer_model.specs.declared.mark.Mark.TheVariants as marked
 use Rattle.layer_model.specs.Annotations.{Annotations}
 use Rattle.layer_model.specs.Classes.{letter_place, rank}
-use Rattle.layer_model.specs.Layers.{IsLayer, has_number, mark_of}
+use Rattle.layer_model.specs.Layers.{IsLayer, has, has_number, mark_of}
 use Rattle.layer_core.specs.PairRules.{is_id}
 use Rattle.ann_reader.specs.Lines.{Line, lines_of}
 use Rattle.ann_reader.specs.Forms.{Form, BadForm, TextForm, EventForm, RelationForm, AttributeForm, ClassForm, NormalForm, NoteForm, form_of}
 use Rattle.ann_reader.specs.References.{own_id}
-use Rattle.ann_reader.specs.AnnFiles.{HasMark, Spells, IsAnn, is_line_of}
+use Rattle.ann_reader.specs.AnnFiles.{HasMark, Spells, IsAnn, is_line_of, said_in, classes_of}
 use Rattle.ann_reader.proofs.CleanLemmas.{not_some, unsome}
+
+-- what of a file decides its layer
+pub record Decides (conf : Configuration) (text bytes : List ℕ) (layer : Annotations) : Type 0 where
+  pub spelt : AllByRecursion (λ line. Spells conf text layer (form_of line.bytes)) (lines_of bytes)
+  pub only : (id : AnnId) → has layer id ≡ true → list_any (is_line_of id) (lines_of bytes) ≡ true
+  pub classes : layer.classes ≡ classes_of (said_in conf (lines_of bytes))
+
+pub decides : (conf : Configuration) (text bytes : List ℕ) (layer : Annotations) → IsAnn conf text bytes layer → Decides conf text bytes layer
+decides conf text bytes layer h = record { spelt = h.spelt; only = h.only; classes = h.classes }
 
 -- ---- IDs by their places
 
@@ -42,7 +51,7 @@ at_place letter.Note = refl
 same_numbers : (p q m n : ℕ) → m ≤ 999999999 → n ≤ 999999999 → p * 1000000000 + m ≡ q * 1000000000 + n → (p ≡ q) × (m ≡ n)
 same_numbers p q m n small few e = (omega arith, omega arith)
 
-same_parts : (a b : AnnId) → is_id a b ≡ true → (a.kind ≡ b.kind) × (a.number ≡ b.number)
+pub same_parts : (a b : AnnId) → is_id a b ≡ true → (a.kind ≡ b.kind) × (a.number ≡ b.number)
 same_parts a b h =
     let e : rank a ≡ rank b = eqb-true (rank a) (rank b) h in
     let parts = same_numbers (letter_place a.kind) (letter_place b.kind) a.number b.number a.within b.within e in
@@ -53,7 +62,7 @@ same_parts a b h =
 has_of : (conf : Configuration) (text : List ℕ) (l : Annotations) (form : Form) (own : AnnId) → own_id form ≡ Some own → Spells conf text l form → HasMark conf l form
 has_of conf text l BadForm own e h = absurd h
 has_of conf text l (TextForm a b c d) own e h = h.0
-has_of conf text l (EventForm a b c d) own e h = h
+has_of conf text l (EventForm a b c d) own e h = h.0
 has_of conf text l (RelationForm a b c d) own e h = h
 has_of conf text l (AttributeForm a b c d) own e h = h
 has_of conf text l (ClassForm a b) own e h = absurd (not_some (sym e))
@@ -114,13 +123,13 @@ few l k letter.Legacy n h = k.legacy n h
 few l k letter.Normal n h = k.normals n h
 few l k letter.Note n h = k.notes n h
 
-agree : (conf : Configuration) (text bytes : List ℕ) (a b : Annotations) → IsLayer a → IsAnn conf text bytes a → IsAnn conf text bytes b
+agree : (conf : Configuration) (text bytes : List ℕ) (a b : Annotations) → IsLayer a → Decides conf text bytes a → Decides conf text bytes b
     → (kind : Kind) (n : ℕ) → has_number a kind n ≡ true → mark_of a kind n ≡ mark_of b kind n
 agree conf text bytes a b keeps x y kind n h =
     let id : AnnId = record { kind = kind; number = n; within = few a keeps kind n h } in
     some_line conf text a b (lines_of bytes) id x.spelt y.spelt (x.only id h)
 
-same_marks : (conf : Configuration) (text bytes : List ℕ) (a b : Annotations) → IsLayer a → IsLayer b → IsAnn conf text bytes a → IsAnn conf text bytes b
+same_marks : (conf : Configuration) (text bytes : List ℕ) (a b : Annotations) → IsLayer a → IsLayer b → Decides conf text bytes a → Decides conf text bytes b
     → (kind : Kind) (n : ℕ) → mark_of a kind n ≡ mark_of b kind n
 same_marks conf text bytes a b k l x y kind n =
     elim (cases_Bool (has_number a kind n)) as (λ _. mark_of a kind n ≡ mark_of b kind n) [
@@ -143,9 +152,9 @@ one_map : {X : Type 0} (f : X → Mark) → ((x y : X) → f x ≡ f y → x ≡
     → ((q : ℕ) → option_map f (finite.get m q) ≡ option_map f (finite.get n q)) → m ≡ n
 one_map f inj m n h = same_map nat_cmp_total nat_cmp-IsAntisymmetric m n (λ q. unmap f inj (finite.get m q) (finite.get n q) (h q))
 
--- two layers that are one file are one layer
-pub one_layer : (conf : Configuration) (text bytes : List ℕ) (a b : Annotations) → IsLayer a → IsLayer b → IsAnn conf text bytes a → IsAnn conf text bytes b → a ≡ b
-one_layer conf text bytes a b k l x y =
+-- two layers that are decided alike are one layer
+pub one_decided : (conf : Configuration) (text bytes : List ℕ) (a b : Annotations) → IsLayer a → IsLayer b → Decides conf text bytes a → Decides conf text bytes b → a ≡ b
+one_decided conf text bytes a b k l x y =
     let same = same_marks conf text bytes a b k l x y in
     let spans = one_map marked.Span (λ p q e. cc) a.spans b.spans (same letter.Text) in
     let events = one_map marked.Event (λ p q e. cc) a.events b.events (same letter.Event) in
@@ -163,3 +172,7 @@ one_layer conf text bytes a b k l x y =
     ∙ ap (λ m. let r : Annotations = record b { normals = m; notes = a.notes; classes = a.classes } in r) normals
     ∙ ap (λ m. let r : Annotations = record b { notes = m; classes = a.classes } in r) notes
     ∙ ap (λ m. let r : Annotations = record b { classes = m } in r) classes
+
+-- two layers that are one file are one layer
+pub one_layer : (conf : Configuration) (text bytes : List ℕ) (a b : Annotations) → IsLayer a → IsLayer b → IsAnn conf text bytes a → IsAnn conf text bytes b → a ≡ b
+one_layer conf text bytes a b k l x y = one_decided conf text bytes a b k l (decides conf text bytes a x) (decides conf text bytes b y)

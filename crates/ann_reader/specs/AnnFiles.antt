@@ -9,10 +9,12 @@ use Rattle.layer_model.specs.declared.class.Class.{Class}
 use Rattle.layer_model.specs.declared.mark.Mark.{Mark}
 use Rattle.layer_model.specs.Annotations.{Annotations}
 use Rattle.layer_model.specs.Classes.{joined}
+use Rattle.layer_model.specs.Coherent.{is_span_letter}
 use Rattle.layer_model.specs.Layers.{has, mark_at}
 use Rattle.layer_core.specs.PairRules.{is_id}
 use Rattle.layer_core.specs.WellFormed.{IsWellFormed}
 use Rattle.ann_reader.specs.Lines.{Line, lines_of}
+use Rattle.ann_reader.specs.Words.{id_read}
 use Rattle.ann_reader.specs.Forms.{Form, BadForm, TextForm, EventForm, RelationForm, AttributeForm, ClassForm, NormalForm, NoteForm, form_of}
 use Rattle.ann_reader.specs.References.{own_id}
 use Rattle.ann_reader.specs.Marks.{Said, mark_of, said_of}
@@ -27,12 +29,16 @@ pub record HasMark (conf : Configuration) (layer : Annotations) (form : Form) : 
   pub spelt : mark_of conf form ≡ Some mark
   pub held : mark_at layer id ≡ Some mark
 
--- a line spells something of the layer: an annotation, the text of a span being the reference text, or a class
+-- the word is the ID of a span
+abbrev pub is_span_word : List ℕ → Bool
+is_span_word word = option_map_or (λ id. is_span_letter id.kind) (id_read word) false
+
+-- a line spells something of the layer: an annotation, the text of a span being the reference text and the trigger of an event a span, or a class
 abbrev pub Spells : Configuration → List ℕ → Annotations → Form → Type 0
 Spells conf text layer BadForm = ⊥
 Spells conf text layer (TextForm first kind frags shown) =
     HasMark conf layer (TextForm first kind frags shown) × (map as_space (chars shown) ≡ reference_text text frags)
-Spells conf text layer (EventForm first kind trigger pairs) = HasMark conf layer (EventForm first kind trigger pairs)
+Spells conf text layer (EventForm first kind trigger pairs) = HasMark conf layer (EventForm first kind trigger pairs) × (is_span_word trigger ≡ true)
 Spells conf text layer (RelationForm first kind a b) = HasMark conf layer (RelationForm first kind a b)
 Spells conf text layer (AttributeForm first kind target value) = HasMark conf layer (AttributeForm first kind target value)
 Spells conf text layer (ClassForm kind ids) = IsSome (said_of conf (ClassForm kind ids))

@@ -4,13 +4,24 @@ ghost use Rattle.annotation_conf.specs.Configurations.{Configuration};
 ghost use Rattle.layer_model.specs.Annotations.{Annotations};
 ghost use Rattle.layer_model.specs.Layers.{IsLayer};
 ghost use Rattle.ann_reader.specs.Lines.{lines_of};
-ghost use Rattle.ann_reader.specs.AnnFaults.{layer_of, lines_fault};
+ghost use Rattle.ann_reader.specs.AnnFaults.{ann_fault, layer_of, lines_fault};
 ghost use Rattle.ann_reader.specs.AnnFiles.{IsAnn};
+
+use layer_core::well_formed_layers_cohere;
 
 /// Lines without a fault are an .ann file of the layer that they say.
 pub fn files_without_fault()
     ensures { (conf : Configuration) (text bytes : List ℕ) → IsUtf8 bytes → lines_fault conf text (lines_of bytes) ≡ None → IsAnn conf text bytes (layer_of conf (lines_of bytes)) }
 {}
+
+/// An .ann file of a layer has no fault, and the layer is the one that its lines say. So a file has a layer exactly
+/// where it has no fault.
+pub fn files_of_a_layer()
+    ensures faultless { (conf : Configuration) (text bytes : List ℕ) (layer : Annotations) → IsLayer layer → IsAnn conf text bytes layer → ann_fault conf text bytes ≡ None }
+    ensures said { (conf : Configuration) (text bytes : List ℕ) (layer : Annotations) → IsLayer layer → IsAnn conf text bytes layer → layer ≡ layer_of conf (lines_of bytes) }
+{
+    well_formed_layers_cohere();
+}
 
 /// A file has at most one layer.
 pub fn at_most_one_layer()

@@ -3,7 +3,7 @@ use Rattle.std.proofs.Common.{◌≡◌, refl, sym, ap, ap₂, ◌∙◌, subst,
 use Rattle.std.proofs.lemmas.Bool.{or_from, or_parts, and_parts, true≢false}
 use Rattle.std.specs.Coded.{le_prop}
 use lib.Utf8.{scalars}
-use Rattle.std.specs.Option.{is_none}
+use Rattle.std.specs.Option.{is_none, option_map_or}
 use Rattle.std.specs.Char.{is_whitespace}
 use Rattle.std.specs.Str.{NonePass}
 use Rattle.std.specs.List.{AllByRecursion, list_all, list_any}
@@ -36,6 +36,7 @@ use Rattle.layer_model.specs.declared.class.Class.{Class}
 use Rattle.layer_model.specs.declared.rule.Rule.{Rule}
 use Rattle.layer_model.specs.declared.flaw.FlawPlace.TheVariants as at
 use Rattle.layer_model.specs.Annotations.{Annotations}
+use Rattle.layer_model.specs.Coherent.{is_span_letter}
 use Rattle.layer_model.specs.Layers.{mark_of as marked_of}
 use Rattle.layer_model.specs.Numbers.{NumbersFit}
 use Rattle.layer_core.specs.Ids.{id_at}
@@ -188,7 +189,8 @@ event_said conf text layer h n event is =
     words_line conf text layer letter.Event n (body first (pair_word name trigger) words) (pair_word name trigger ++ words_behind words) form small refl
     (unbroken_words (pair_word name trigger) words whole all)
     (event_line_read n name trigger words pairs small plain (name_colon name facts.word) whole all (pairs_read_back conf sound k [] event.args declared))
-    (has_mark conf layer form letter.Event n (marked.Event event) small refl spelt (ap (option_map marked.Event) is)) refl refl
+    (has_mark conf layer form letter.Event n (marked.Event event) small refl spelt (ap (option_map marked.Event) is),
+    ap (λ o. option_map_or (λ (id : AnnId). is_span_letter id.kind) o false) (spelling_read letter.Text event.trigger event.within)) refl refl
 
 -- ---- R
 
