@@ -16,6 +16,8 @@ mod arguments;
 mod laws;
 mod lines;
 mod marks;
+#[cfg(test)]
+mod tests;
 mod words;
 mod write_fault;
 
