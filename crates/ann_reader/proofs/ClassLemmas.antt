@@ -74,7 +74,7 @@ said_some (Some kind) ids said e h =
       | Some members ↦ λ a q. subst (λ (s : Said). 0 < length s.members) (unsome q) (all_len ids members a h)
     ] in cases refl e
 
-form_some : (conf : Configuration) (form : Form) (said : Said) → NamesSome form → said_of conf form ≡ Some said → 0 < length said.members
+pub form_some : (conf : Configuration) (form : Form) (said : Said) → NamesSome form → said_of conf form ≡ Some said → 0 < length said.members
 form_some conf BadForm said h e = absurd (not_some (sym e))
 form_some conf (TextForm a b c d) said h e = absurd (not_some (sym e))
 form_some conf (EventForm a b c d) said h e = absurd (not_some (sym e))

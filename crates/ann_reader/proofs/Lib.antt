@@ -27,3 +27,4 @@ pub mod StepLemmas
 pub mod TextCuts
 pub mod TextLemmas
 pub mod UniqueLemmas
+pub mod WholeLayer

@@ -42,7 +42,7 @@ small : (conf : Configuration) (lines : List Line) (kind : Kind) (n : ℕ) → h
 small conf lines kind n h = elim (lines_small conf no_marks lines kind n h) as (λ _. n ≤ 999999999) [ inl t ↦ absurd (none_of kind n t) | inr few ↦ few ]
 
 -- what lines say is a layer, where its classes are those of one
-is_layer : (conf : Configuration) (lines : List Line) → IsClassList (layer_of conf lines).classes → IsLayer (layer_of conf lines)
+pub is_layer : (conf : Configuration) (lines : List Line) → IsClassList (layer_of conf lines).classes → IsLayer (layer_of conf lines)
 is_layer conf lines classes = record {
   spans = λ n h. small conf lines letter.Text n h;
   events = λ n h. small conf lines letter.Event n h;

@@ -1,5 +1,5 @@
 //! Laws of .ann files. Each function does nothing; its contract is the law.
-ghost use Rattle.std.specs.Prelude.{◌≡◌, ℕ, List, None, IsUtf8};
+ghost use Rattle.std.specs.Prelude.{◌≡◌, ◌≤◌, ℕ, List, length, None, IsUtf8};
 ghost use Rattle.annotation_conf.specs.Configurations.{Configuration};
 ghost use Rattle.layer_model.specs.Annotations.{Annotations};
 ghost use Rattle.layer_model.specs.Layers.{IsLayer};
@@ -9,9 +9,15 @@ ghost use Rattle.ann_reader.specs.AnnFiles.{IsAnn};
 
 use layer_core::well_formed_layers_cohere;
 
-/// Lines without a fault are an .ann file of the layer that they say.
+/// A file without a fault is an .ann file of the layer that its lines say.
 pub fn files_without_fault()
-    ensures { (conf : Configuration) (text bytes : List ℕ) → IsUtf8 bytes → lines_fault conf text (lines_of bytes) ≡ None → IsAnn conf text bytes (layer_of conf (lines_of bytes)) }
+    ensures lines { (conf : Configuration) (text bytes : List ℕ) → IsUtf8 bytes → lines_fault conf text (lines_of bytes) ≡ None → IsAnn conf text bytes (layer_of conf (lines_of bytes)) }
+    ensures file { (conf : Configuration) (text bytes : List ℕ) → ann_fault conf text bytes ≡ None → IsAnn conf text bytes (layer_of conf (lines_of bytes)) }
+{}
+
+/// What the lines of a file that may be read say is a layer.
+pub fn layers_of_lines()
+    ensures { (conf : Configuration) (bytes : List ℕ) → length bytes ≤ 16777216 → IsLayer (layer_of conf (lines_of bytes)) }
 {}
 
 /// An .ann file of a layer has no fault, and the layer is the one that its lines say. So a file has a layer exactly

@@ -23,7 +23,7 @@ mod word;
 mod worked_rows;
 
 pub use crate::ann_fault::{AnnFault, AnnWhat};
-pub use crate::laws::{at_most_one_layer, files_of_a_layer, files_without_fault};
+pub use crate::laws::{at_most_one_layer, files_of_a_layer, files_without_fault, layers_of_lines};
 pub use crate::letters::Letters;
 pub use crate::reader::read_ann;
 pub use crate::roles::role_read;

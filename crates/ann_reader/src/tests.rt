@@ -1,4 +1,9 @@
 //! Whole files, read or refused.
+mod faults;
+mod full;
+mod sentences;
+mod tables;
+
 use crate::{AnnFault, read_ann};
 use annotation_conf::read_conf;
 use char_documents::Doc;
@@ -36,6 +41,14 @@ fn counted(alloc: Global, layer: &Layer) -> Result<String, Fail> {
     Ok(text)
 }
 
+/// The line and the fault.
+fn shown(alloc: Global, fault: AnnFault) -> Result<String, Fail> {
+    match fault {
+        AnnFault::At { line, what } => Ok(format!(in alloc; "{line} {what:?}")?),
+        AnnFault::Memory => Ok(String::from_str(alloc, "memory")?),
+    }
+}
+
 /// What reading a file on a text gives: the counts, or the line and the fault.
 fn outcome(alloc: Global, text: &str, ann: &str) -> Result<String, Fail> {
     let conf = read_conf(alloc, CONF.as_bytes())?;
@@ -45,8 +58,7 @@ fn outcome(alloc: Global, text: &str, ann: &str) -> Result<String, Fail> {
     }
     match read_ann(alloc, ann.as_bytes(), &doc, &conf) {
         Ok(layer) => counted(alloc, &layer),
-        Err(AnnFault::At { line, what }) => Ok(format!(in alloc; "{line} {what:?}")?),
-        Err(AnnFault::Memory) => Ok(String::from_str(alloc, "memory")?),
+        Err(fault) => shown(alloc, fault),
     }
 }
 
