@@ -200,9 +200,30 @@ pub const IN_USE: &[Outcome] = &[
     ("* 1 T1 T2", "delete T1", "0 -"),
 ];
 
+/// Stores and entries that may not stand.
+pub const REFERENCES: &[Outcome] = &[
+    ("-", "reference T1 Wiki:pedia 64 Berlin", "21 -"),
+    ("-", "reference T1 Wikipedia Q:64 Berlin", "0 N1"),
+];
+
+/// Spans of a text of five characters, of which the first has four bytes.
+pub const CHARACTERS: &[Outcome] = &[
+    ("-", "span Person 2:5", "0 T1"),
+    ("-", "span Person 2:6", "4 -"),
+];
+
+/// Spans of a text of eleven characters.
+pub const PERSONS: &[Outcome] = &[
+    ("-", "span Person 0:3", "0 T1"),
+    ("-", "span Person 0:12", "4 -"),
+    ("-", "span Person 3:3", "3 -"),
+    ("-", "span City 0:3", "1 -"),
+];
+
 /// The greatest number of a letter is taken.
 pub const USED_UP: &[Outcome] = &[
     ("T999999999 1 1:2", "span Person 3:4", "23 T0"),
+    ("-", "load T999999999 1 0:3/span Person 4:7", "23 T0"),
     ("E999999999 4 T4", "event Meet T4 Who:T1", "23 E0"),
     ("R999999999 0 T1 T3", "relation Located T1 T7", "23 R0"),
     (

@@ -3,7 +3,9 @@ use super::commands::{command_of, name};
 use super::flaws::{NOTHING, Sign, carried, id_sign, sign};
 use super::outcomes::{Change, Outcome};
 use super::written::written;
-use super::{assert_none, cases, conf_of, layer_of, long_text, many_spans, outcomes, rows};
+use super::{
+    assert_none, cases, conf_of, layer_of, long_text, many_spans, outcomes, put_attributes, rows,
+};
 use crate::{Command, Refusal, Work};
 use annotation_conf::Conf;
 use char_documents::Doc;
@@ -60,12 +62,14 @@ fn answer(work: &mut Work, command: Command) -> Result<Answer, Memory> {
     }
 }
 
-/// Carries commands out, which are parted by `/`, up to the first that is refused: the answer to the last.
+/// Carries copies of commands out, which are parted by `/`, up to the first that is refused: the answer to
+/// the last.
 fn run(alloc: Global, work: &mut Work, commands: &str) -> Result<Answer, Memory> {
     let mut last = DONE;
     for text in commands.split('/') {
         let command = command_of(alloc, text)?;
-        last = answer(work, command)?;
+        let copy = command.copy(alloc)?;
+        last = answer(work, copy)?;
         if last.0 != 0 {
             return Ok(last);
         }
@@ -229,8 +233,34 @@ fn the_least_place_is_told(rt: HostRuntime) -> Result<(), Memory> {
 }
 
 #[test]
+fn references_are_single_words(rt: HostRuntime) -> Result<(), Memory> {
+    let wrong = first_wrong(rt.alloc(), outcomes::REFERENCES)?;
+    assert_none(&rt, wrong);
+    Ok(())
+}
+
+#[test]
 fn spans_contain_others_whole(rt: HostRuntime) -> Result<(), Memory> {
     let wrong = first_wrong_alone(rt.alloc(), outcomes::OVERLAPS)?;
+    assert_none(&rt, wrong);
+    Ok(())
+}
+
+/// The first wrong outcome where the configuration declares persons alone.
+fn first_wrong_person(
+    alloc: Global,
+    text: &str,
+    outcomes: &[Outcome],
+) -> Result<&'static str, Memory> {
+    let ground = ground_of(alloc, "[entities]\nPerson\n", text)?;
+    wrong_in(&ground, "-", outcomes)
+}
+
+#[test]
+fn spans_are_counted_in_characters(rt: HostRuntime) -> Result<(), Memory> {
+    let wrong = first_wrong_person(rt.alloc(), "\u{1F600} Ann", outcomes::CHARACTERS)?;
+    assert_none(&rt, wrong);
+    let wrong = first_wrong_person(rt.alloc(), "Ann met Bob", outcomes::PERSONS)?;
     assert_none(&rt, wrong);
     Ok(())
 }
@@ -343,19 +373,31 @@ fn notes_have_one_line(rt: HostRuntime) -> Result<(), Memory> {
     Ok(())
 }
 
-/// The answer to one more span, after the last of so many.
-fn answer_after(alloc: Global, count: u16, command: &str) -> Result<Answer, Memory> {
+/// The answer to commands on a layer in a text of 10,001 characters.
+fn answer_on(alloc: Global, layer: Layer, commands: &str) -> Result<Answer, Memory> {
     let text = long_text(alloc, 10_001)?;
     let ground = ground_of(alloc, cases::PLAIN, text.as_str())?;
-    let layer = many_spans(alloc, count)?;
     let mut work = open(&ground, layer)?;
-    run(alloc, &mut work, command)
+    run(alloc, &mut work, commands)
 }
 
 #[test]
 fn a_layer_has_10000_spans_at_most(rt: HostRuntime) -> Result<(), Memory> {
-    let most = answer_after(rt.alloc(), 9_999, "span Person 10000:10001")?;
-    let more = answer_after(rt.alloc(), 10_000, "span Person 10000:10001")?;
-    assert!(rt; most.0 == 0 && more.0 == 22);
+    let layer = many_spans(rt.alloc(), 9_999)?;
+    let answer = answer_on(
+        rt.alloc(),
+        layer,
+        "span Person 9999:10000/span Person 10000:10001",
+    )?;
+    assert!(rt; is_same(answer, (22, (u16::from(b'T'), 0))));
+    Ok(())
+}
+
+#[test]
+fn a_layer_has_10000_attributes_at_most(rt: HostRuntime) -> Result<(), Memory> {
+    let mut layer = many_spans(rt.alloc(), 5_001)?;
+    put_attributes(&mut layer, 5_000)?;
+    let answer = answer_on(rt.alloc(), layer, "attribute Old T5000")?;
+    assert!(rt; is_same(answer, (22, (u16::from(b'A'), 0))));
     Ok(())
 }
