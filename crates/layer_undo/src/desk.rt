@@ -136,8 +136,8 @@ impl Desk {
     {
         let _layer = self.work.layer();
         self.base = base;
-        self.done.clear();
-        self.undone.clear();
+        self.done = Vec::new(self.alloc);
+        self.undone = Vec::new(self.alloc);
     }
 
     /// Carries a command out. The commands that were undone are gone then. A refusal leaves the desk as

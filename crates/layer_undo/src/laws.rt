@@ -31,7 +31,7 @@ pub fn undo_takes_a_command_back()
 {}
 
 /// So many undos take back as many commands, the last one first, and so many redos give them again.
-pub fn undos_and_redos_count()
+pub fn undos_take_back_as_many_commands()
     ensures undone { (desk : DeskState) (kept taken : List Command) → desk.done ≡ kept ++ reverse taken → after_calls desk (replicate (length taken) Call.Undo) ≡ with_scripts desk kept (desk.undone ++ taken) }
     ensures redone { (desk : DeskState) (kept given : List Command) → desk.undone ≡ kept ++ reverse given → after_calls desk (replicate (length given) Call.Redo) ≡ with_scripts desk (desk.done ++ given) kept }
 {}

@@ -28,7 +28,8 @@ mod worked_rows;
 pub use crate::desk::Desk;
 pub use crate::desk_start::DeskStart;
 pub use crate::laws::{
-    desks_stay_desks, redo_takes_undo_back, undo_takes_a_command_back, undos_and_redos_count,
+    desks_stay_desks, redo_takes_undo_back, undo_takes_a_command_back,
+    undos_take_back_as_many_commands,
 };
 pub use crate::script::Script;
 pub use crate::scripts::check_scripts;
