@@ -14,6 +14,7 @@ pub record Form : Type 0 where
 
 -- ---- spans
 
+-- a new span
 abbrev pub add_span : Form
 add_span = record {
   word = codes "add-span";
@@ -21,6 +22,7 @@ add_span = record {
   command = λ body. of_two ask.AddSpan (name_at (codes "type") body) (frags_at (codes "at") body);
 }
 
+-- another type for a span
 abbrev pub retype : Form
 retype = record {
   word = codes "retype";
@@ -28,6 +30,7 @@ retype = record {
   command = λ body. of_two ask.RetypeSpan (ann_id_at (codes "id") body) (name_at (codes "type") body);
 }
 
+-- other fragments for a span
 abbrev pub move_span : Form
 move_span = record {
   word = codes "move";
@@ -37,6 +40,7 @@ move_span = record {
 
 -- ---- events
 
+-- a new event, stated by a span
 abbrev pub add_event : Form
 add_event = record {
   word = codes "add-event";
@@ -44,6 +48,7 @@ add_event = record {
   command = λ body. of_three ask.AddEvent (name_at (codes "type") body) (ann_id_at (codes "trigger") body) (arguments_at (codes "args") body);
 }
 
+-- one more argument of an event
 abbrev pub add_arg : Form
 add_arg = record {
   word = codes "add-arg";
@@ -51,6 +56,7 @@ add_arg = record {
   command = λ body. of_two ask.AddArg (ann_id_at (codes "id") body) (argument_at (codes "arg") body);
 }
 
+-- the first such argument taken out
 abbrev pub remove_arg : Form
 remove_arg = record {
   word = codes "remove-arg";
@@ -60,6 +66,7 @@ remove_arg = record {
 
 -- ---- relations and attributes
 
+-- a new relation
 abbrev pub add_relation : Form
 add_relation = record {
   word = codes "add-relation";
@@ -75,6 +82,7 @@ set_attribute = record {
   command = λ body. of_three ask.SetAttribute (name_at (codes "type") body) (ann_id_at (codes "of") body) (name_if_there (codes "value") body);
 }
 
+-- an attribute taken away
 abbrev pub clear_attribute : Form
 clear_attribute = record {
   word = codes "clear-attribute";
@@ -84,6 +92,7 @@ clear_attribute = record {
 
 -- ---- classes
 
+-- spans that are one class
 abbrev pub equate : Form
 equate = record {
   word = codes "equate";
@@ -91,6 +100,7 @@ equate = record {
   command = λ body. of_two ask.Equate (name_at (codes "type") body) (ann_ids_at (codes "members") body);
 }
 
+-- a span taken out of its class
 abbrev pub unequate : Form
 unequate = record {
   word = codes "unequate";
@@ -100,6 +110,7 @@ unequate = record {
 
 -- ---- notes and references
 
+-- a note, or another text for it
 abbrev pub set_note : Form
 set_note = record {
   word = codes "set-note";
@@ -107,6 +118,7 @@ set_note = record {
   command = λ body. of_three ask.SetNote (ann_id_at (codes "of") body) (name_at (codes "type") body) (text_at (codes "text") body);
 }
 
+-- a reference to an entry of a store, or another text for it
 abbrev pub set_reference : Form
 set_reference = record {
   word = codes "set-reference";
@@ -118,6 +130,7 @@ set_reference = record {
 
 -- ---- any annotation
 
+-- an annotation taken away
 abbrev pub delete : Form
 delete = record {
   word = codes "delete";
@@ -125,6 +138,7 @@ delete = record {
   command = λ body. option_map ask.Delete (ann_id_at (codes "id") body);
 }
 
+-- an annotation taken away with all that names it
 abbrev pub purge : Form
 purge = record {
   word = codes "purge";

@@ -456,7 +456,7 @@ const MISSPELT_IDS: [&str; 14] = [
     "{\"do\":\"delete\",\"id\":\"T1 \"}",
     "{\"do\":\"delete\",\"id\":\" T1\"}",
     "{\"do\":\"delete\",\"id\":\"T-1\"}",
-    "{\"do\":\"delete\",\"id\":\"T1.0\"}",
+    "{\"do\":\"delete\",\"id\":\"T1,0\"}",
     "{\"do\":\"delete\",\"id\":\"T1000000000\"}",
     "{\"do\":\"delete\",\"id\":\"TT1\"}",
 ];
