@@ -68,6 +68,7 @@ impl Inbox {
         requires { IsFalse self.old.stopped }
         ensures message { IfOk result (λ message. TakesMessage
             (prepend_known self.old.held (L.left link.old)) message (prepend_known self.new.held (L.left link.new))) }
+        ensures short { IfOk result (λ message. length message.body ≤ 4194304) }
         ensures kept { OnErr result (Keeps (prepend_known self.old.held (L.left link.old)) (prepend_known self.new.held (L.left link.new))) }
         ensures stop { IfErr result (StopsAsDefined (prepend_known self.old.held (L.left link.old)) self.new.held (L.left link.new)) }
         ensures stopped { self.new.stopped ≡ is_err result }

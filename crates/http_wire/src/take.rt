@@ -137,6 +137,7 @@ fn take_front(alloc: Global, held: &mut Vec<u8>, head: Head) -> Result<Message, 
     requires head { IsHeadOf held.old.items head }
     requires enough { head.len + head.size ≤ length held.old.items }
     ensures message { IfOk result (IsFrontMessage held.old.items held.new.items) }
+    ensures short { IfOk result (λ message. length message.body ≤ 4194304) }
     ensures err { OnErr result (held.new.items ≡ held.old.items) }
     ensures bound { length held.new.items ≤ length held.old.items }
 {
@@ -172,6 +173,7 @@ pub fn take_message<L: Link>(
     requires bound { length held.old.items ≤ 4214784 }
     ensures message { IfOk result (λ message. TakesMessage
         (prepend_known held.old.items (L.left link.old)) message (prepend_known held.new.items (L.left link.new))) }
+    ensures short { IfOk result (λ message. length message.body ≤ 4194304) }
     ensures kept { OnErr result (Keeps (prepend_known held.old.items (L.left link.old)) (prepend_known held.new.items (L.left link.new))) }
     ensures stop { IfErr result (StopsAsDefined (prepend_known held.old.items (L.left link.old)) held.new.items (L.left link.new)) }
     ensures bound { length held.new.items ≤ 4214784 }
