@@ -1,4 +1,3 @@
-mod LineLemmas
-mod Offsets
+mod DeskLemmas
+mod NothingLemmas
 mod SessionLemmas
-mod Values

@@ -12,8 +12,9 @@ use Rattle.http_wire.specs.declared.stop.Stop.TheVariants as stop
 use Rattle.http_wire.specs.Answers.{answer_bytes_of, stop_answer, unable}
 use Rattle.http_wire.specs.Inbox.{TakesMessage, StopsAsDefined}
 use Rattle.http_wire.specs.Messages.{ReadsMessage, StopsWith}
-use Rattle.annotation_http.specs.Desk.{DeskState}
-use Rattle.annotation_http.specs.Session.{AnswerEnds, IfTold, Lacks, Refused, RefusalEnds, Run, Served, SessionEnds, SessionTold, Step, Stepped, StopEnds, Stopped, Takes, TakesKnown, UnableEnds, bytes_from, bytes_of}
+use Rattle.layer_undo.specs.Desks.{DeskState}
+use Rattle.annotation_http.specs.Desk.{Step}
+use Rattle.annotation_http.specs.Session.{AnswerEnds, IfTold, Lacks, Refused, RefusalEnds, Run, Served, SessionEnds, SessionTold, Stepped, StopEnds, Stopped, Takes, TakesKnown, UnableEnds, bytes_from, bytes_of}
 use Rattle.annotation_http.specs.declared.session.Ending.{Ending}
 use Rattle.annotation_http.specs.declared.session.Ending.TheVariants as ending
 

@@ -1,34 +1,26 @@
--- The first desk: one annotator's layer on one text, and what it answers to a message.
-use Rattle.std.specs.Prelude.{◌≡◌, ℕ, ◌+◌, ◌-◌, ◌≤◌, Bool, true, false, ◌&&◌, ◌||◌, List, [], ◌∷◌, ◌++◌, length, nat_lt, nat_le, if◌then◌else◌, Option, Some, None, position, bytes_eq, codes, decimal}
-use Rattle.std.specs.List.{list_all}
+-- One annotator's desk on one text, and what it answers to a message.
+use Rattle.std.specs.Prelude.{◌≡◌, ℕ, ◌⊎◌, Bool, false, ◌&&◌, List, ◌++◌, length, Option, Some, None, Result, Ok, Err, if◌then◌else◌, bytes_eq, codes, decimal}
+use Rattle.json.specs.Print.{quoted}
 use Rattle.http_wire.specs.declared.answer.Answer.{Answer}
 use Rattle.http_wire.specs.declared.answer.Media.TheVariants.{Json, Plain}
 use Rattle.http_wire.specs.declared.message.Message.{Message}
 use Rattle.http_wire.specs.Answers.{refusal}
-use Rattle.mark_base.specs.declared.fragments.Frag.{Frag}
-use Rattle.char_documents.specs.Texts.{all_lie_in}
-use Rattle.layer_model.specs.declared.span.Span.{Span}
-use Rattle.layer_model.specs.Span.{has_span}
-use Rattle.annotation_http.specs.declared.add_span.AddSpan.{AddSpan}
-use Rattle.annotation_http.specs.AddSpan.{add_span_of}
-use Rattle.annotation_http.specs.AnnLines.{span_lines}
+use Rattle.mark_base.specs.declared.ann_id.AnnId.{AnnId}
+use Rattle.layer_model.specs.declared.rule.Rule.{Rule}
+use Rattle.layer_model.specs.Annotations.{Annotations}
+use Rattle.layer_core.specs.declared.command.Command.{Command}
+use Rattle.layer_core.specs.declared.command.Command.TheVariants.{Load}
+use Rattle.layer_undo.specs.Desks.{DeskState, Performed, performed, after_undo, after_redo, layer_of}
+use Rattle.command_json.specs.Bodies.{command_of}
+use Rattle.ann_reader.specs.AnnFaults.{ann_fault}
+use Rattle.ann_reader.specs.AnnFiles.{IsAnn}
+use Rattle.ann_reader.specs.LineFaults.{Fault}
+use Rattle.ann_writer.specs.AnnOf.{ann_of}
+use Rattle.annotation_http.specs.declared.route.DeskRoute.{DeskRoute}
+use Rattle.annotation_http.specs.declared.route.DeskRoute.TheVariants as route
+use Rattle.annotation_http.specs.Refusals.{id_text, rule_answer, fault_answer}
 
--- the names of the types, the characters of the text, and the spans, of which the first has the number 1
-pub record DeskState : Type 0 where
-  pub types : List (List ℕ)
-  pub text : List ℕ
-  pub spans : List Span
-
--- a span has one of the types and lies within the text
-abbrev pub is_sound : List (List ℕ) → List ℕ → Span → Bool
-is_sound types text span = nat_lt span.kind.n (length types) && all_lie_in text span.frags
-
--- there are few enough types to number, and each span is sound
-pub record IsSoundDesk (types : List (List ℕ)) (text : List ℕ) (spans : List Span) : Type 0 where
-  pub few : length types ≤ 63
-  pub sound : list_all (is_sound types text) spans ≡ true
-
--- ---- the two messages that are served, both for the caller `you`
+-- ---- the messages that are served, all for the caller `you`
 
 -- the desk's annotator asks
 abbrev pub is_you : Option (List ℕ) → Bool
@@ -39,52 +31,82 @@ is_you None = false
 abbrev pub is_route : Message → List ℕ → List ℕ → Bool
 is_route message method path = is_you message.caller && bytes_eq message.method method && bytes_eq message.path path
 
+-- the route of a message
+abbrev pub route_of : Message → Option DeskRoute
+route_of message =
+    if is_route message (codes "POST") (codes "/desk/do") then Some route.Do
+    else (if is_route message (codes "POST") (codes "/desk/undo") then Some route.Undo
+    else (if is_route message (codes "POST") (codes "/desk/redo") then Some route.Redo
+    else (if is_route message (codes "POST") (codes "/desk/load") then Some route.Load
+    else (if is_route message (codes "GET") (codes "/desk") then Some route.Show else None))))
+
 -- ---- the answers
 
--- the answer to a message that is not served yet: none of the two, one span more than 4,096, or one that is undecided
+-- the answer to a message of another caller or another route, which is not served yet
 abbrev pub not_yet : Answer
 not_yet = refusal 501 (codes "NotYet")
 
--- the answer to a span that was added
-abbrev pub made : ℕ → Answer
-made number = record { status = 200; media = Json; body = codes "{\"made\":\"T" ++ (decimal number ++ codes "\"}") }
+-- the answer to a command: the annotation that it made
+abbrev pub made_answer : Option AnnId → Answer
+made_answer None = record { status = 200; media = Json; body = codes "{\"made\":null}" }
+made_answer (Some id) = record { status = 200; media = Json; body = codes "{\"made\":" ++ (quoted (id_text id) ++ codes "}") }
 
--- the answer that shows the layer
-abbrev pub lines_of : DeskState → Answer
-lines_of desk = record { status = 200; media = Plain; body = span_lines desk.types desk.text 1 desk.spans }
+-- the answer to undo and redo: how many commands are done and undone now
+abbrev pub counts_answer : DeskState → Answer
+counts_answer desk = record {
+  status = 200;
+  media = Json;
+  body = codes "{\"done\":" ++ (decimal (length desk.done) ++ (codes ",\"undone\":" ++ (decimal (length desk.undone) ++ codes "}")));
+}
 
--- ---- adding a span: the tests of its type, its fragment and its place in the text, in this order
+-- the answer that shows the layer: its canonical .ann lines
+abbrev pub lines_answer : DeskState → Answer
+lines_answer desk = record { status = 200; media = Plain; body = ann_of desk.conf desk.text (layer_of desk) }
 
--- the desk with one more span
-abbrev pub with_span : DeskState → ℕ → Frag → DeskState
-with_span desk kind frag = record desk { spans = desk.spans ++ (record { kind = record { n = kind }; frags = frag ∷ [] }) ∷ [] }
+-- ---- what each message does
 
--- it reaches too far, or it stands already: this desk does not decide that yet
-abbrev pub is_undecided : DeskState → ℕ → Frag → Bool
-is_undecided desk kind frag = nat_lt 10000 (frag.end - frag.start) || has_span kind (frag ∷ []) desk.spans
+-- an answer, and the desk behind it
+abbrev pub Outcome : Type 0
+Outcome = Answer × DeskState
 
--- the tests of a fragment and of its place, for a type of the desk
-abbrev pub placed : DeskState → ℕ → Frag → Answer × DeskState
-placed desk kind frag =
-    if nat_le frag.end frag.start then (refusal 422 (codes "BadFragments"), desk)
-    else (if nat_lt (length desk.text) frag.end then (refusal 422 (codes "OutOfText"), desk)
-    else (if is_undecided desk kind frag then (not_yet, desk)
-    else (made (length desk.spans + 1), with_span desk kind frag)))
+-- a command was carried out or refused
+abbrev pub said_of : DeskState → Result Performed Rule → Outcome
+said_of desk (Ok done) = (made_answer done.made, done.desk)
+said_of desk (Err rule) = (rule_answer desk.conf rule, desk)
 
--- the test of the type, which comes first
-abbrev pub of_type : DeskState → Option ℕ → Frag → Answer × DeskState
-of_type desk None frag = (refusal 422 (codes "UnknownType"), desk)
-of_type desk (Some kind) frag = placed desk kind frag
+-- a desk carries out a command
+abbrev pub commanded : DeskState → Command → Outcome
+commanded desk command = said_of desk (performed desk command)
 
--- a body that asks for no span of one fragment is not served yet, nor is any span once 4,096 stand
-abbrev pub added : DeskState → Option AddSpan → Answer × DeskState
-added desk None = (not_yet, desk)
-added desk (Some wanted) =
-    if nat_le 4096 (length desk.spans) then (not_yet, desk)
-    else of_type desk (position (λ name. bytes_eq name wanted.kind) desk.types) wanted.frag
+-- the body of a message asks for a command
+abbrev pub asked : DeskState → Option Command → Outcome
+asked desk (Some command) = commanded desk command
+asked desk None = (refusal 400 (codes "BadBody"), desk)
 
--- the answer to a message, and the desk behind it
-unfoldable pub exchange : DeskState → Message → Answer × DeskState
-exchange desk message =
-    if is_route message (codes "POST") (codes "/desk/do") then added desk (add_span_of message.body)
-    else (if is_route message (codes "GET") (codes "/desk") then (lines_of desk, desk) else (not_yet, desk))
+-- a command was undone or redone, or there is none
+abbrev pub moved : DeskState → Result DeskState Rule → Outcome
+moved desk (Ok new) = (counts_answer new, new)
+moved desk (Err rule) = (rule_answer desk.conf rule, desk)
+
+-- an .ann file takes the place of the layer: the file is read first, and its fault is told with its line
+abbrev pub Loads : DeskState → List ℕ → Outcome → Type 0
+Loads desk bytes outcome =
+    ((layer : Annotations) × IsAnn desk.conf desk.text bytes layer × (outcome ≡ commanded desk (Load layer)))
+    ⊎ ((fault : Fault) × (ann_fault desk.conf desk.text bytes ≡ Some fault) × (outcome ≡ (fault_answer desk.conf fault.line fault.what, desk)))
+
+-- what a message of a route does, by its body
+abbrev pub Serves : Option DeskRoute → DeskState → List ℕ → Outcome → Type 0
+Serves (Some route.Do) desk body outcome = outcome ≡ asked desk (command_of body)
+Serves (Some route.Undo) desk body outcome = outcome ≡ moved desk (after_undo desk)
+Serves (Some route.Redo) desk body outcome = outcome ≡ moved desk (after_redo desk)
+Serves (Some route.Load) desk body outcome = Loads desk body outcome
+Serves (Some route.Show) desk body outcome = outcome ≡ (lines_answer desk, desk)
+Serves None desk body outcome = outcome ≡ (not_yet, desk)
+
+-- the desk answers so to a message, and goes on to another state
+unfoldable pub Step : DeskState → Message → Answer → DeskState → Type 0
+Step old message answer new = Serves (route_of message) old message.body (answer, new)
+
+-- without memory for the answer the desk is as before, or it has done what the message asks for
+abbrev pub Stands : DeskState → Message → DeskState → Type 0
+Stands old message new = (new ≡ old) ⊎ ((answer : Answer) × Step old message answer new)

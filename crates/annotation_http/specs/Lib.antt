@@ -1,5 +1,3 @@
-pub mod AddSpan
-pub mod AnnLines
 pub mod Desk
-pub mod Examples
+pub mod Refusals
 pub mod Session

@@ -10,7 +10,8 @@ use Rattle.http_wire.specs.declared.stop.Stop.TheVariants as stop
 use Rattle.http_wire.specs.Answers.{answer_bytes_of, refusal, stop_answer, unable}
 use Rattle.http_wire.specs.Inbox.{TakesMessage}
 use Rattle.http_wire.specs.Messages.{ReadsMessage, IsUnfinished, StopsWith}
-use Rattle.annotation_http.specs.Desk.{DeskState, exchange}
+use Rattle.layer_undo.specs.Desks.{DeskState}
+use Rattle.annotation_http.specs.Desk.{Step}
 use Rattle.annotation_http.specs.declared.session.Ending.{Ending}
 use Rattle.annotation_http.specs.declared.session.Ending.TheVariants as ending
 
@@ -28,10 +29,6 @@ TakesKnown (Some bytes) messages None = ⊥
 TakesKnown (Some bytes) messages (Some rest) = Takes bytes messages rest
 
 -- ---- the answers to them
-
--- the desk answers so to a message, and goes on to new
-abbrev pub Step : DeskState → Message → Answer → DeskState → Type 0
-Step old message answer new = (answer, new) ≡ exchange old message
 
 -- the desk answers so to these messages in turn
 abbrev pub Run : DeskState → List Message → List Answer → DeskState → Type 0

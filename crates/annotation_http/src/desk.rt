@@ -1,162 +1,165 @@
 //! The first desk.
-ghost use Rattle.std.specs.Prelude.{◌≡◌, ◌<◌, ◌≤◌, [], length, vec_len, position, bytes_eq, chars, codes, Some, IfOk, IfSome, OnErr};
+ghost use Rattle.std.specs.Prelude.{◌≡◌, ◌≤◌, ◌⊎◌, [], length, Some, None, IfOk, IfSome, OnErr};
 ghost use Rattle.http.specs.StatusCode.{IsStatusCode};
-ghost use Rattle.annotation_http.specs.Desk.{added, exchange, is_route, is_you, lines_of, of_type, placed};
+ghost use Rattle.layer_undo.specs.Desks.{after_redo, after_undo, performed};
+ghost use Rattle.command_json.specs.Bodies.{command_of};
+ghost use Rattle.layer_model.specs.Annotations.{no_marks};
+ghost use Rattle.layer_core.specs.declared.command.Command.TheVariants.{Load};
+ghost use Rattle.annotation_http.specs.Desk.{Loads, Serves, Stands, Step, asked, commanded, lines_answer, moved, route_of};
 
-use crate::add_span::{AddSpan, read_add_span};
-use crate::ann_lines::ann_lines;
-use crate::answers::tell_made;
-use crate::span_list::SpanList;
+use crate::answers::{counts_answer, lines_answer, made_answer};
+use crate::refusals::{fault_answer, rule_answer};
+use crate::route::{DeskRoute, route_of};
+use ann_reader::{AnnFault, read_ann};
+use annotation_conf::Conf;
 use char_documents::Doc;
-use http_wire::{Answer, Media, Message};
-use layer_model::Span;
-use mark_base::{Frag, FragList, Memory, Name, Text, TypeId};
+use command_json::{CommandFault, read_command};
+use http_wire::{Answer, Message};
+use layer_core::{Command, Refusal, unflawed_layers};
+use layer_model::Layer;
+use layer_undo::{Desk, DeskStart, Script};
+use mark_base::Memory;
 use std::alloc::Global;
 use std::marker::Model;
+use std::sync::Arc;
 
-/// How many spans this desk takes at most.
-const MOST_SPANS: usize = 4_096;
-
-/// How many characters a span reaches over at most.
-const LONGEST_SPAN: u32 = 10_000;
-
-/// One annotator's layer on one text. It takes spans of one fragment, from the caller `you`.
-#[derive(Debug, Drop)]
+/// One annotator's layer on one text, with undo and redo. It is served to the caller `you`.
+#[derive(Drop)]
 pub struct FirstDesk {
     alloc: Global,
-    types: Vec<Name>,
-    text: Doc,
-    spans: SpanList,
+    conf: Arc<Conf>,
+    text: Arc<Doc>,
+    desk: Desk,
 }
 
 impl Model for FirstDesk {
-    ghost use Rattle.annotation_http.specs.Desk.{DeskState, IsSoundDesk};
+    ghost use Rattle.std.specs.Prelude.{◌≡◌};
+    ghost use Rattle.std.specs.Arc.{arc_value};
+    ghost use Rattle.layer_undo.specs.Desks.{DeskState, desk_code};
 
     ghost Value = { DeskState };
 
-    ghost view = { λ desk. record { types = desk.types.items; text = desk.text; spans = desk.spans } };
+    ghost coded = { desk_code };
 
-    ghost invariant = { λ desk. IsSoundDesk desk.types.items desk.text desk.spans };
-}
+    ghost view = { λ first. first.desk };
 
-/// Whether the caller is the desk's annotator.
-fn is_you(caller: &Option<Text>) -> bool
-    ensures { result ≡ is_you caller.now }
-{
-    match caller {
-        Some(caller) => caller.text() == "you",
-        None => false,
-    }
-}
-
-/// Whether the message asks for this route, as the desk's annotator.
-fn is_route(message: &Message, method: &str, path: &str) -> bool
-    ensures { result ≡ is_route message.now method.now path.now }
-{
-    is_you(&message.caller) && message.method.text() == method && message.path.text() == path
-}
-
-/// The place of the type of a name.
-fn find_type(types: &[Name], kind: &str) -> Option<usize>
-    ensures place { result ≡ position (λ name. bytes_eq name kind.now) types.now }
-    ensures bound { IfSome result (λ place. place < length types.now) }
-{
-    types.iter().position(|name| name.text() == kind)
+    ghost invariant = { λ first. (arc_value first.conf ≡ first.desk.conf) × (arc_value first.text ≡ first.desk.text) };
 }
 
 impl FirstDesk {
-    /// A desk with nothing marked, on this text and for the types of these names.
-    pub fn new(alloc: Global, types: Vec<Name>, text: Doc) -> Self
-        requires few { vec_len types ≤ 63 }
-        ensures { result ≡ record { types = types.items; text = text; spans = [] } }
+    /// A desk with nothing marked, for this configuration and on this text.
+    pub fn new(alloc: Global, conf: Conf, text: Doc) -> Result<Self, Memory>
+        ensures { IfOk result (λ first. first ≡ record { conf = conf; text = text; base = no_marks; done = []; undone = [] }) }
     {
-        FirstDesk {
-            alloc,
-            types,
-            text,
-            spans: SpanList::new(alloc),
+        unflawed_layers();
+        let conf = Arc::new(alloc, conf)?;
+        let text = Arc::new(alloc, text)?;
+        let base = Arc::new(alloc, Layer::new(alloc))?;
+        let done = Script::new(alloc);
+        let undone = Script::new(alloc);
+        match Desk::open(alloc, base, text.clone()?, conf.clone()?, done, undone) {
+            Ok(desk) => Ok(FirstDesk {
+                alloc,
+                conf,
+                text,
+                desk,
+            }),
+            Err(DeskStart::Memory) => Err(Memory),
+            Err(DeskStart::Base(_)) => unreachable!(),
+            Err(DeskStart::At(_, _)) => unreachable!(),
         }
     }
 
-    /// Adds a span of this type, after the tests of its fragment.
-    fn place(&mut self, kind: TypeId, frag: Frag) -> Result<Answer, Memory>
-        requires { kind.n < length self.old.types }
-        ensures done { IfOk result (λ answer. (answer, self.new) ≡ placed self.old kind.n frag) }
+    /// Carries out a command.
+    fn command(&mut self, command: Command) -> Result<Answer, Memory>
+        ensures done { IfOk result (λ answer. (answer, self.new) ≡ commanded self.old command) }
         ensures status { IfOk result (λ answer. IsStatusCode answer.status) }
-        ensures kept { OnErr result (self.new ≡ self.old) }
+        ensures stands { OnErr result ((self.new ≡ self.old) ⊎ (self.new ≡ (commanded self.old command).1)) }
     {
-        let alloc = self.alloc;
-        if frag.end <= frag.start {
-            return Answer::refusal(alloc, 422, "BadFragments");
-        }
-        if self.text.char_count() < frag.end {
-            return Answer::refusal(alloc, 422, "OutOfText");
-        }
-        if frag.end - frag.start > LONGEST_SPAN || self.spans.has(kind, &[frag]) {
-            return Answer::refusal(alloc, 501, "NotYet");
-        }
-        let answer = tell_made(alloc, self.spans.spans().len() + 1)?;
-        let frags = FragList::of(alloc, &[frag])?;
-        self.spans.add(Span { kind, frags })?;
-        Ok(answer)
-    }
-
-    /// Adds a span of the type at this place, where there is one.
-    fn add_of_type(&mut self, place: Option<usize>, frag: Frag) -> Result<Answer, Memory>
-        requires { IfSome place (λ kind. kind < length self.old.types) }
-        ensures done { IfOk result (λ answer. (answer, self.new) ≡ of_type self.old place frag) }
-        ensures status { IfOk result (λ answer. IsStatusCode answer.status) }
-        ensures kept { OnErr result (self.new ≡ self.old) }
-    {
-        let _types = &self.types;
-        match place {
-            Some(kind) => self.place(TypeId { n: kind as u16 }, frag),
-            None => Answer::refusal(self.alloc, 422, "UnknownType"),
+        match self.desk.perform(command) {
+            Ok(done) => made_answer(self.alloc, done.made),
+            Err(Refusal::Rule(rule)) => rule_answer(self.alloc, &self.conf, rule),
+            Err(Refusal::Memory) => Err(Memory),
         }
     }
 
-    /// Adds a span as it was asked for.
-    fn add(&mut self, wanted: &AddSpan) -> Result<Answer, Memory>
-        ensures done { IfOk result (λ answer. (answer, self.new) ≡ added self.old (Some wanted.now)) }
+    /// Carries out the command that a body spells.
+    fn ask(&mut self, body: &[u8]) -> Result<Answer, Memory>
+        ensures done { IfOk result (λ answer. (answer, self.new) ≡ asked self.old (command_of body.now)) }
         ensures status { IfOk result (λ answer. IsStatusCode answer.status) }
-        ensures kept { OnErr result (self.new ≡ self.old) }
+        ensures stands { OnErr result ((self.new ≡ self.old) ⊎ (self.new ≡ (asked self.old (command_of body.now)).1)) }
     {
-        if self.spans.spans().len() >= MOST_SPANS {
-            return Answer::refusal(self.alloc, 501, "NotYet");
+        match read_command(self.alloc, body) {
+            Ok(command) => self.command(command),
+            Err(CommandFault::BadBody) => Answer::refusal(self.alloc, 400, "BadBody"),
+            Err(CommandFault::Memory) => Err(Memory),
         }
-        let place = find_type(&self.types, wanted.kind.text());
-        self.add_of_type(place, wanted.frag)
+    }
+
+    /// Undoes the last command done.
+    fn undo(&mut self) -> Result<Answer, Memory>
+        ensures done { IfOk result (λ answer. (answer, self.new) ≡ moved self.old (after_undo self.old)) }
+        ensures status { IfOk result (λ answer. IsStatusCode answer.status) }
+        ensures stands { OnErr result ((self.new ≡ self.old) ⊎ (self.new ≡ (moved self.old (after_undo self.old)).1)) }
+    {
+        match self.desk.undo() {
+            Ok(()) => counts_answer(self.alloc, &self.desk),
+            Err(Refusal::Rule(rule)) => rule_answer(self.alloc, &self.conf, rule),
+            Err(Refusal::Memory) => Err(Memory),
+        }
+    }
+
+    /// Carries out the last command undone once more.
+    fn redo(&mut self) -> Result<Answer, Memory>
+        ensures done { IfOk result (λ answer. (answer, self.new) ≡ moved self.old (after_redo self.old)) }
+        ensures status { IfOk result (λ answer. IsStatusCode answer.status) }
+        ensures stands { OnErr result ((self.new ≡ self.old) ⊎ (self.new ≡ (moved self.old (after_redo self.old)).1)) }
+    {
+        match self.desk.redo() {
+            Ok(()) => counts_answer(self.alloc, &self.desk),
+            Err(Refusal::Rule(rule)) => rule_answer(self.alloc, &self.conf, rule),
+            Err(Refusal::Memory) => Err(Memory),
+        }
+    }
+
+    /// Takes the layer of an .ann file in place of the one that stands.
+    fn load(&mut self, body: &[u8]) -> Result<Answer, Memory>
+        requires { length body.now ≤ 4194304 }
+        ensures done { IfOk result (λ answer. Loads self.old body.now (answer, self.new)) }
+        ensures status { IfOk result (λ answer. IsStatusCode answer.status) }
+        ensures stands { OnErr result ((self.new ≡ self.old) ⊎ ((answer : Answer) × Loads self.old body.now (answer, self.new))) }
+    {
+        match read_ann(self.alloc, body, &self.text, &self.conf) {
+            Ok(layer) => self.command(Command::Load { layer }),
+            Err(AnnFault::At { line, what }) => fault_answer(self.alloc, &self.conf, line, what),
+            Err(AnnFault::Memory) => Err(Memory),
+        }
     }
 
     /// The layer as .ann lines.
     fn show(&self) -> Result<Answer, Memory>
-        ensures done { IfOk result (λ answer. answer ≡ lines_of self.now) }
+        ensures done { IfOk result (λ answer. answer ≡ lines_answer self.now) }
         ensures status { IfOk result (λ answer. IsStatusCode answer.status) }
     {
-        let body = ann_lines(self.alloc, &self.types, &self.text, self.spans.spans())?;
-        Ok(Answer {
-            status: 200,
-            media: Media::Plain,
-            body,
-        })
+        lines_answer(self.alloc, &self.desk, &self.text, &self.conf)
     }
 
-    /// Answers a message. Want of memory leaves the desk as it was.
-    #[tactic(auto, unfolding(crate::specs::Desk::exchange))]
+    /// Answers a message. Where there is no memory for the answer, the desk is as it was, or it has done
+    /// what the message asks for.
+    #[tactic(auto, unfolding(crate::specs::Desk::Step))]
     pub(crate) fn answer(&mut self, message: &Message) -> Result<Answer, Memory>
-        ensures done { IfOk result (λ answer. (answer, self.new) ≡ exchange self.old message.now) }
+        requires { length message.now.body ≤ 4194304 }
+        ensures done { IfOk result (λ answer. Step self.old message.now answer self.new) }
         ensures status { IfOk result (λ answer. IsStatusCode answer.status) }
-        ensures kept { OnErr result (self.new ≡ self.old) }
+        ensures stands { OnErr result (Stands self.old message.now self.new) }
     {
-        if is_route(message, "POST", "/desk/do") {
-            return match read_add_span(self.alloc, message.body.items())? {
-                Some(wanted) => self.add(&wanted),
-                None => Answer::refusal(self.alloc, 501, "NotYet"),
-            };
+        match route_of(message) {
+            Some(DeskRoute::Do) => self.ask(message.body.items()),
+            Some(DeskRoute::Undo) => self.undo(),
+            Some(DeskRoute::Redo) => self.redo(),
+            Some(DeskRoute::Load) => self.load(message.body.items()),
+            Some(DeskRoute::Show) => self.show(),
+            None => Answer::refusal(self.alloc, 501, "NotYet"),
         }
-        if is_route(message, "GET", "/desk") {
-            return self.show();
-        }
-        Answer::refusal(self.alloc, 501, "NotYet")
     }
 }

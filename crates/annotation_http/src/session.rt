@@ -1,5 +1,5 @@
 //! One connection from its first message to its end.
-ghost use Rattle.std.specs.Prelude.{◌≡◌, ◌<◌, true};
+ghost use Rattle.std.specs.Prelude.{◌≡◌, ◌<◌, ◌≤◌, length, true};
 ghost use Rattle.http.specs.StatusCode.{IsStatusCode};
 ghost use Rattle.http_wire.specs.Answers.{answer_bytes_of, refusal};
 ghost use Rattle.mark_base.specs.Streams.{OnlyWrites, Rose};
@@ -86,7 +86,8 @@ fn answer_message<L: Link>(
     message: &Message,
     count: u32,
 ) -> Result<(), Ending>
-    requires { count < 1000000 }
+    requires count { count < 1000000 }
+    requires short { length message.now.body ≤ 4194304 }
     ensures told { AnswerEnds desk.old message.now desk.new (L.held link.old) (L.held link.new) count result }
     ensures cause { result ≡ Err Ending.WriteFault → Rose (L.write_faults link.old) (L.write_faults link.new) }
     ensures apart { OnlyWrites L.left L.read_faults L.write_faults link.old link.new }
@@ -147,10 +148,11 @@ fn end_stopped<L: Link>(alloc: Global, link: &mut L, stop: Stop) -> Ending
 /// Serves one connection from its first message to its end: each message that the link gives is
 /// answered from the desk, in order, at most 1,000,000 of them.
 ///
-/// What the desk was asked to add stands also where the answer was not written whole; where there was
-/// no memory for the answer itself, nothing was added. Memory held at a time is that of the bytes read,
-/// one message with its body's JSON, and one answer, beside the desk. Cost: the bytes read and written,
-/// and the number of spans for each span that is added and each time the desk is shown.
+/// What the desk was asked to do stands also where the answer was not written whole. Where memory runs out,
+/// the last message was carried out, or it left the desk as it was. Memory held at a time is that of the
+/// bytes read, one message with its body's JSON or its layer, one answer, and a copy of the layer, beside the
+/// desk. Cost: the bytes read and written, a check of the layer for each command, and for undo all commands
+/// that are done.
 pub fn serve_link<L: Link>(alloc: Global, desk: &mut FirstDesk, link: &mut L) -> Ending
     ensures session { SessionTold desk.old desk.new (L.left link.old) (L.left link.new) (L.held link.old) (L.held link.new) result }
     ensures read { result ≡ Ending.ReadFault → Rose (L.read_faults link.old) (L.read_faults link.new) }

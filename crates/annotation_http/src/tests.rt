@@ -1,7 +1,9 @@
 //! Whole connections, by their bytes: each as one piece and in pieces of one byte.
 use crate::{Ending, FirstDesk, serve_link};
+use annotation_conf::read_conf;
 use char_documents::Doc;
-use mark_base::{Bytes, MemoryLink, Name};
+use http_wire::Message;
+use mark_base::{Bytes, Memory, MemoryLink, Text};
 use std::alloc::Global;
 use std::process::Abort;
 use std::test::Fail;
@@ -72,7 +74,7 @@ const CASES: [Case; 12] = [
         output: b"HTTP/1.1 200 OK\r\nContent-Type: application/json\r\nContent-Length: 13\r\nPlace: 3\r\n\r\n{\"made\":\"T1\"}HTTP/1.1 200 OK\r\nContent-Type: text/plain; charset=utf-8\r\nContent-Length: 23\r\nPlace: 3\r\n\r\nT1\tPerson 0 8\tNew York\n",
         ending: Ending::End,
     },
-    // What is not served yet: another caller, another route, and a span that stands.
+    // What is not served yet: another caller, and another route. A span that stands is refused.
     Case {
         text: "Ann",
         input: b"GET /desk HTTP/1.1\r\nCaller: eve\r\n\r\nGET /docs HTTP/1.1\r\nCaller: you\r\n\r\n",
@@ -82,7 +84,7 @@ const CASES: [Case; 12] = [
     Case {
         text: "Ann",
         input: b"POST /desk/do HTTP/1.1\r\nCaller: you\r\nContent-Length: 44\r\n\r\n{\"at\":\"0 3\",\"do\":\"add-span\",\"type\":\"Person\"}POST /desk/do HTTP/1.0\r\nCaller: you\r\nContent-Length: 44\r\n\r\n{\"at\":\"0 3\",\"do\":\"add-span\",\"type\":\"Person\"}",
-        output: b"HTTP/1.1 200 OK\r\nContent-Type: application/json\r\nContent-Length: 13\r\nPlace: 3\r\n\r\n{\"made\":\"T1\"}HTTP/1.1 501 Not Implemented\r\nContent-Type: application/json\r\nContent-Length: 20\r\nPlace: 3\r\nConnection: close\r\n\r\n{\"refused\":\"NotYet\"}",
+        output: b"HTTP/1.1 200 OK\r\nContent-Type: application/json\r\nContent-Length: 13\r\nPlace: 3\r\n\r\n{\"made\":\"T1\"}HTTP/1.1 422 Unprocessable Entity\r\nContent-Type: application/json\r\nContent-Length: 32\r\nPlace: 3\r\nConnection: close\r\n\r\n{\"of\":\"T1\",\"refused\":\"SameSpan\"}",
         ending: Ending::Closed,
     },
     // A message that is cut off has no answer, and a head that is none has the last one.
@@ -102,8 +104,16 @@ const CASES: [Case; 12] = [
 
 /// A desk on a text, for the one type `Person`.
 fn desk(alloc: Global, text: &str) -> Result<FirstDesk, Fail> {
-    let types = vec![in alloc; Name::new(alloc, "Person")?]?;
-    Ok(FirstDesk::new(alloc, types, Doc::new(alloc, text)?))
+    desk_for(alloc, "[entities]\nPerson\n", text)
+}
+
+/// A desk on a text, for a configuration.
+fn desk_for(alloc: Global, conf: &str, text: &str) -> Result<FirstDesk, Fail> {
+    if conf.len() > 4_194_304 {
+        return Err(Fail::from(Memory));
+    }
+    let conf = read_conf(alloc, conf.as_bytes())?;
+    Ok(FirstDesk::new(alloc, conf, Doc::new(alloc, text)?)?)
 }
 
 #[test]
@@ -176,5 +186,285 @@ fn each_read_and_each_write_fails_in_turn(rt: HostRuntime) -> Result<(), Fail> {
             (ending, written)
         );
     }
+    Ok(())
+}
+
+// ---- what a desk says to requests in turn
+
+const CONF: &str =
+    "[entities]\n!Agent\n\tPerson\n\tOrganization\nLocation\n[relations]\nLocated\tArg1:Person, Arg2:Location\nEquiv\tArg1:<ENTITY>, Arg2:<ENTITY>, <REL-TYPE>:symmetric-transitive\n[events]\nMeet\tWho+:Agent, Place?:Location\nPair\tMember{2}:Agent\n[attributes]\nNegation\tArg:<EVENT>\nConfidence\tArg:<EVENT>, Value:High|Neutral|Low\n";
+
+const MET: &str = "Ann met Bob in Rome";
+
+const MEETING: &str =
+    "E1\tMeet:T9 Who:T1 Who2:T2 Place:T3 \nT1\tPerson 0 3\tAnn\nT2\tPerson 8 11\tBob\nT3\tLocation 15 19\tRome\nT9\tMeet 4 7\tmet\nR1\tLocated Arg1:T1 Arg2:T3\t\n";
+
+/// A request of the desk's annotator: its method, its path and its body.
+type Request = (&'static str, &'static str, &'static str);
+
+/// A message of the desk's annotator.
+fn message(alloc: Global, request: &Request) -> Result<Message, Fail> {
+    let (method, path, body) = *request;
+    Ok(Message {
+        method: Text::of(alloc, method)?,
+        path: Text::of(alloc, path)?,
+        caller: Some(Text::of(alloc, "you")?),
+        body: Bytes::of(alloc, body.as_bytes())?,
+        last: false,
+    })
+}
+
+/// Appends the status and the body of the answer to a request, on a line.
+fn answer(
+    alloc: Global,
+    desk: &mut FirstDesk,
+    request: &Request,
+    said: &mut Vec<u8>,
+) -> Result<(), Fail> {
+    let message = message(alloc, request)?;
+    if message.body.items().len() > 4_194_304 {
+        return Err(Fail::from(Memory));
+    }
+    let answer = desk.answer(&message)?;
+    said.extend_from_slice(answer.status.to_string(alloc)?.as_bytes())?;
+    said.extend_from_slice(b" ")?;
+    said.extend_from_slice(answer.body.items())?;
+    said.extend_from_slice(b"\n")?;
+    Ok(())
+}
+
+/// What a desk on a text says to requests in turn, a line an answer.
+fn talk(alloc: Global, text: &str, requests: &[Request]) -> Result<Vec<u8>, Fail> {
+    let mut desk = desk_for(alloc, CONF, text)?;
+    let mut said = Vec::new(alloc);
+    for request in requests {
+        answer(alloc, &mut desk, request, &mut said)?;
+    }
+    Ok(said)
+}
+
+const UNDO: Request = ("POST", "/desk/undo", "");
+
+const REDO: Request = ("POST", "/desk/redo", "");
+
+const SHOW: Request = ("GET", "/desk", "");
+
+const LOAD_MEETING: Request = ("POST", "/desk/load", MEETING);
+
+#[test]
+fn a_purge_takes_all_that_names_it_and_undo_gives_it_back(rt: HostRuntime) -> Result<(), Fail> {
+    let purge = ("POST", "/desk/do", r#"{"do":"purge","id":"T1"}"#);
+    let said = talk(rt.alloc(), MET, &[LOAD_MEETING, purge, SHOW, UNDO, SHOW])?;
+    assert_eq!(rt;
+        said.as_slice(),
+        b"200 {\"made\":null}\n200 {\"made\":null}\n200 T2\tPerson 8 11\tBob\nT3\tLocation 15 19\tRome\nT9\tMeet 4 7\tmet\n\n200 {\"done\":1,\"undone\":1}\n200 T1\tPerson 0 3\tAnn\nT2\tPerson 8 11\tBob\nT3\tLocation 15 19\tRome\nT9\tMeet 4 7\tmet\nE1\tMeet:T9 Who:T1 Who2:T2 Place:T3\nR1\tLocated Arg1:T1 Arg2:T3\n\n".as_slice()
+    );
+    Ok(())
+}
+
+#[test]
+fn what_is_named_is_not_deleted(rt: HostRuntime) -> Result<(), Fail> {
+    let delete = ("POST", "/desk/do", r#"{"do":"delete","id":"T1"}"#);
+    let said = talk(rt.alloc(), MET, &[LOAD_MEETING, delete])?;
+    assert_eq!(rt;
+        said.as_slice(),
+        b"200 {\"made\":null}\n422 {\"of\":\"E1\",\"refused\":\"InUse\"}\n".as_slice()
+    );
+    Ok(())
+}
+
+#[test]
+fn a_role_is_filled_as_often_as_it_may_be(rt: HostRuntime) -> Result<(), Fail> {
+    let place = (
+        "POST",
+        "/desk/do",
+        r#"{"do":"add-arg","id":"E1","arg":"Place:T3"}"#,
+    );
+    let said = talk(rt.alloc(), MET, &[LOAD_MEETING, place])?;
+    assert_eq!(rt;
+        said.as_slice(),
+        b"200 {\"made\":null}\n422 {\"of\":\"Place\",\"refused\":\"TooMany\"}\n".as_slice()
+    );
+    Ok(())
+}
+
+#[test]
+fn an_event_with_too_few_arguments_stands_on_a_desk(rt: HostRuntime) -> Result<(), Fail> {
+    let load = (
+        "POST",
+        "/desk/load",
+        "T1\tPerson 0 3\tAnn\nT2\tPair 4 7\tmet\n",
+    );
+    let pair = (
+        "POST",
+        "/desk/do",
+        r#"{"do":"add-event","type":"Pair","trigger":"T2","args":["Member:T1"]}"#,
+    );
+    let said = talk(rt.alloc(), MET, &[load, pair])?;
+    assert_eq!(rt;
+        said.as_slice(),
+        b"200 {\"made\":null}\n200 {\"made\":\"E1\"}\n".as_slice()
+    );
+    Ok(())
+}
+
+#[test]
+fn the_greatest_number_is_used_up(rt: HostRuntime) -> Result<(), Fail> {
+    let load = ("POST", "/desk/load", "T999999999\tPerson 0 3\tAnn\n");
+    let add = (
+        "POST",
+        "/desk/do",
+        r#"{"do":"add-span","type":"Person","at":"4 7"}"#,
+    );
+    let said = talk(rt.alloc(), MET, &[load, add])?;
+    assert_eq!(rt;
+        said.as_slice(),
+        b"200 {\"made\":null}\n422 {\"of\":\"T\",\"refused\":\"IdsUsedUp\"}\n".as_slice()
+    );
+    Ok(())
+}
+
+#[test]
+fn nothing_is_undone_or_redone_at_first(rt: HostRuntime) -> Result<(), Fail> {
+    let said = talk(rt.alloc(), MET, &[UNDO, REDO])?;
+    assert_eq!(rt;
+        said.as_slice(),
+        b"409 {\"refused\":\"NothingToUndo\"}\n409 {\"refused\":\"NothingToRedo\"}\n".as_slice()
+    );
+    Ok(())
+}
+
+#[test]
+fn a_command_ends_what_may_be_redone(rt: HostRuntime) -> Result<(), Fail> {
+    let ann = (
+        "POST",
+        "/desk/do",
+        r#"{"do":"add-span","type":"Person","at":"0 3"}"#,
+    );
+    let bob = (
+        "POST",
+        "/desk/do",
+        r#"{"do":"add-span","type":"Person","at":"8 11"}"#,
+    );
+    let said = talk(rt.alloc(), MET, &[ann, UNDO, REDO, UNDO, bob, REDO])?;
+    assert_eq!(rt;
+        said.as_slice(),
+        b"200 {\"made\":\"T1\"}\n200 {\"done\":0,\"undone\":1}\n200 {\"done\":1,\"undone\":0}\n200 {\"done\":0,\"undone\":1}\n200 {\"made\":\"T1\"}\n409 {\"refused\":\"NothingToRedo\"}\n".as_slice()
+    );
+    Ok(())
+}
+
+#[test]
+fn a_fault_of_a_load_has_its_line(rt: HostRuntime) -> Result<(), Fail> {
+    let twice = (
+        "POST",
+        "/desk/load",
+        "T1\tPerson 0 3\tAnn\nT1\tPerson 8 11\tBob\n",
+    );
+    let anm = ("POST", "/desk/load", "\nT1\tPerson 0 3\tAnm\n");
+    let said = talk(rt.alloc(), MET, &[twice, anm])?;
+    assert_eq!(rt;
+        said.as_slice(),
+        b"422 {\"line\":2,\"refused\":\"IdTwice\"}\n422 {\"line\":2,\"of\":\"2\",\"refused\":\"WrongText\"}\n".as_slice()
+    );
+    Ok(())
+}
+
+#[test]
+fn a_broken_rule_of_a_load_has_its_line(rt: HostRuntime) -> Result<(), Fail> {
+    let behind = ("POST", "/desk/load", "T1\tPerson 0 99\tAnn\n");
+    let same = (
+        "POST",
+        "/desk/load",
+        "T1\tPerson 0 3\tAnn\nT2\tPerson 0 3\tAnn\n",
+    );
+    let said = talk(rt.alloc(), MET, &[behind, same])?;
+    assert_eq!(rt;
+        said.as_slice(),
+        b"422 {\"line\":1,\"refused\":\"OutOfText\"}\n422 {\"line\":2,\"of\":\"T1\",\"refused\":\"SameSpan\"}\n".as_slice()
+    );
+    Ok(())
+}
+
+#[test]
+fn a_load_that_is_refused_leaves_what_stood(rt: HostRuntime) -> Result<(), Fail> {
+    let bob = ("POST", "/desk/load", "T2\tPerson 8 11\tBob\n");
+    let refused = ("POST", "/desk/load", "T3\tPerson 0 3\tBob\n");
+    let said = talk(rt.alloc(), MET, &[bob, refused, UNDO, SHOW])?;
+    assert_eq!(rt;
+        said.as_slice(),
+        b"200 {\"made\":null}\n422 {\"line\":1,\"of\":\"0\",\"refused\":\"WrongText\"}\n200 {\"done\":0,\"undone\":1}\n200 \n".as_slice()
+    );
+    Ok(())
+}
+
+#[test]
+fn bodies_of_no_form_are_refused(rt: HostRuntime) -> Result<(), Fail> {
+    let empty = ("POST", "/desk/do", "");
+    let unknown = ("POST", "/desk/do", r#"{"do":"load"}"#);
+    let more = (
+        "POST",
+        "/desk/do",
+        r#"{"do":"delete","id":"T1","at":"0 3"}"#,
+    );
+    let said = talk(rt.alloc(), MET, &[empty, unknown, more])?;
+    assert_eq!(rt;
+        said.as_slice(),
+        b"400 {\"refused\":\"BadBody\"}\n400 {\"refused\":\"BadBody\"}\n400 {\"refused\":\"BadBody\"}\n".as_slice()
+    );
+    Ok(())
+}
+
+#[test]
+fn a_full_desk_takes_no_command_until_one_is_undone(rt: HostRuntime) -> Result<(), Fail> {
+    let alloc = rt.alloc();
+    let mut desk = desk_for(alloc, CONF, MET)?;
+    let add = (
+        "POST",
+        "/desk/do",
+        r#"{"do":"add-span","type":"Person","at":"0 3"}"#,
+    );
+    let note = (
+        "POST",
+        "/desk/do",
+        r#"{"do":"set-note","of":"T1","type":"Seen","text":""}"#,
+    );
+    let unread = ("POST", "/desk/load", "T1");
+    let mut before = Vec::new(alloc);
+    answer(alloc, &mut desk, &add, &mut before)?;
+    for _ in 1..4_096 {
+        answer(alloc, &mut desk, &note, &mut before)?;
+    }
+    let mut said = Vec::new(alloc);
+    for request in [note, unread, UNDO, note, REDO] {
+        answer(alloc, &mut desk, &request, &mut said)?;
+    }
+    assert_eq!(rt;
+        said.as_slice(),
+        b"409 {\"refused\":\"DeskFull\"}\n422 {\"line\":1,\"refused\":\"BadLine\"}\n200 {\"done\":4095,\"undone\":1}\n200 {\"made\":null}\n409 {\"refused\":\"NothingToRedo\"}\n".as_slice()
+    );
+    Ok(())
+}
+
+const OVERLAPS: &str =
+    "[entities]\nPerson\nLocation\n[relations]\n<OVERLAP>\tArg1:<ENTITY>, Arg2:<ENTITY>, <OVL-TYPE>:contain\n[events]\n[attributes]\n";
+
+#[test]
+fn overlaps_are_judged_by_the_configuration(rt: HostRuntime) -> Result<(), Fail> {
+    let alloc = rt.alloc();
+    let mut desk = desk_for(alloc, OVERLAPS, "New York City")?;
+    let mut said = Vec::new(alloc);
+    for body in [
+        r#"{"do":"add-span","type":"Location","at":"0 8"}"#,
+        r#"{"do":"add-span","type":"Location","at":"4 13"}"#,
+        r#"{"do":"add-span","type":"Person","at":"0 8"}"#,
+        r#"{"do":"add-span","type":"Location","at":"4 8"}"#,
+    ] {
+        answer(alloc, &mut desk, &("POST", "/desk/do", body), &mut said)?;
+    }
+    assert_eq!(rt;
+        said.as_slice(),
+        b"200 {\"made\":\"T1\"}\n422 {\"of\":\"T1\",\"refused\":\"OverlapRefused\"}\n422 {\"of\":\"T1\",\"refused\":\"OverlapRefused\"}\n200 {\"made\":\"T2\"}\n".as_slice()
+    );
     Ok(())
 }
