@@ -1,2 +1,1 @@
 mod Documents
-mod Openings

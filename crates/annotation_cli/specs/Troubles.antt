@@ -7,10 +7,9 @@ use Rattle.annotation_conf.specs.declared.conf_fault.ConfWhat.{ConfWhat}
 use Rattle.annotation_conf.specs.declared.conf_fault.ConfWhat.TheVariants as conf
 use Rattle.ann_reader.specs.declared.ann_fault.AnnWhat.{AnnWhat}
 use Rattle.ann_reader.specs.declared.ann_fault.AnnWhat.TheVariants as ann
-use Rattle.layer_model.specs.declared.rule.Rule.{Rule}
-use Rattle.layer_model.specs.declared.rule.Rule.TheVariants as rule
+use Rattle.annotation_http.specs.Refusals.{rule_name}
 use Rattle.annotation_cli.specs.declared.trouble.Trouble.{Trouble}
-use Rattle.annotation_cli.specs.declared.trouble.Trouble.TheVariants.{Usage, Conf, ConfNotYet, Ann, TextNotUtf8, TextTooLong, FileAbsent, FileTooLong, FileFailed, Cut, BadHead, NeedsLength, TooLarge, Encoded, Spent, ReadFault, WriteFault, Memory}
+use Rattle.annotation_cli.specs.declared.trouble.Trouble.TheVariants.{Usage, Conf, Ann, TextNotUtf8, TextTooLong, FileAbsent, FileTooLong, FileFailed, Cut, BadHead, NeedsLength, TooLarge, Encoded, Spent, ReadFault, WriteFault, Memory}
 
 -- the name of a fault of a configuration
 abbrev pub conf_name : ConfWhat → List ℕ
@@ -27,36 +26,6 @@ conf_name conf.BadArgument = codes "BadArgument"
 conf_name conf.UnknownTypeNamed = codes "UnknownTypeNamed"
 conf_name conf.UnknownMacro = codes "UnknownMacro"
 conf_name conf.TooManyTypes = codes "TooManyTypes"
-
--- the name of a rule, without what it carries
-abbrev pub rule_name : Rule → List ℕ
-rule_name rule.UnknownType = codes "UnknownType"
-rule_name rule.NotForUse = codes "NotForUse"
-rule_name rule.BadFragments = codes "BadFragments"
-rule_name rule.OutOfText = codes "OutOfText"
-rule_name rule.SpanTooLong = codes "SpanTooLong"
-rule_name (rule.NoSuch id) = codes "NoSuch"
-rule_name (rule.WrongKind id) = codes "WrongKind"
-rule_name rule.UnknownRole = codes "UnknownRole"
-rule_name (rule.ArgumentType role) = codes "ArgumentType"
-rule_name (rule.TooMany role) = codes "TooMany"
-rule_name rule.NoSuchArgument = codes "NoSuchArgument"
-rule_name rule.UnknownValue = codes "UnknownValue"
-rule_name rule.TooDeep = codes "TooDeep"
-rule_name (rule.SameSpan id) = codes "SameSpan"
-rule_name (rule.SameEvent id) = codes "SameEvent"
-rule_name (rule.SameRelation id) = codes "SameRelation"
-rule_name (rule.AttributeThere id) = codes "AttributeThere"
-rule_name rule.EquivMembers = codes "EquivMembers"
-rule_name (rule.OverlapRefused id) = codes "OverlapRefused"
-rule_name (rule.InUse id) = codes "InUse"
-rule_name rule.BadText = codes "BadText"
-rule_name (rule.LayerFull kind) = codes "LayerFull"
-rule_name (rule.IdsUsedUp kind) = codes "IdsUsedUp"
-rule_name (rule.TooFew event role) = codes "TooFew"
-rule_name rule.DeskFull = codes "DeskFull"
-rule_name rule.NothingToUndo = codes "NothingToUndo"
-rule_name rule.NothingToRedo = codes "NothingToRedo"
 
 -- what is said of a fault of an .ann file: its name, and the place or the rule that it carries
 abbrev pub ann_name : AnnWhat → List ℕ
@@ -75,7 +44,6 @@ at_line file line name = file ++ (codes " line " ++ (decimal line ++ (codes ": "
 abbrev pub fixed_line : Trouble → Option (List ℕ)
 fixed_line Usage = Some (codes "usage\n")
 fixed_line (Conf line what) = None
-fixed_line ConfNotYet = Some (codes "conf: NotYet\n")
 fixed_line (Ann line what) = None
 fixed_line TextNotUtf8 = Some (codes "text: NotUtf8\n")
 fixed_line TextTooLong = Some (codes "text: TooLong\n")
@@ -106,7 +74,6 @@ line_of trouble = option_map_or (λ line. line) (fixed_line trouble) (numbered_l
 abbrev pub status_of : Bool → Trouble → ℕ
 status_of verifies Usage = 2
 status_of verifies (Conf line what) = if verifies then 1 else 3
-status_of verifies ConfNotYet = 3
 status_of verifies (Ann line what) = if verifies then 1 else 3
 status_of verifies TextNotUtf8 = 3
 status_of verifies TextTooLong = 3
@@ -129,10 +96,10 @@ Says verifies trouble old new before now status =
     (Appends old new (line_of trouble) × (status ≡ status_of verifies trouble))
     ⊎ (AppendsFront old new (line_of trouble) × (status ≡ 6) × Rose before now)
 
--- a trouble was said; its line may want memory, and then that is said
+-- a trouble was said; a line that names a line of a file may want memory, and then that is said
 abbrev pub Complains : Bool → Trouble → Option (List ℕ) → Option (List ℕ) → ℕ → ℕ → ℕ → Type 0
 Complains verifies trouble old new before now status =
-    Says verifies trouble old new before now status ⊎ Says verifies Memory old new before now status
+    Says verifies trouble old new before now status ⊎ ((fixed_line trouble ≡ None) × Says verifies Memory old new before now status)
 
 -- a run that has done its job says nothing
 abbrev pub Ends : Bool → Result (Unit {0}) Trouble → Option (List ℕ) → Option (List ℕ) → ℕ → ℕ → ℕ → Type 0

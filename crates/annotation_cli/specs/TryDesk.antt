@@ -1,8 +1,8 @@
 -- What `try CONF TEXT` does: it serves the console from a desk on two files.
-use Rattle.std.specs.Prelude.{◌≡◌, ℕ, ◌⊎◌, ◌==◌, ◌&&◌, nat_le, List, [], length, map, if◌then◌else◌, Option, Some, None, Result, Ok, Err, ⊤}
-use Rattle.std.specs.List.{list_all}
+use Rattle.std.specs.Prelude.{◌≡◌, ℕ, ◌⊎◌, List, [], Option, Result, Ok, Err}
 use Rattle.annotation_conf.specs.Configurations.{Configuration}
-use Rattle.annotation_http.specs.Desk.{DeskState}
+use Rattle.layer_model.specs.Annotations.{no_marks}
+use Rattle.layer_undo.specs.Desks.{DeskState}
 use Rattle.annotation_http.specs.Session.{SessionTold}
 use Rattle.annotation_http.specs.declared.session.Ending.{Ending}
 use Rattle.annotation_http.specs.declared.session.Ending.TheVariants as ending
@@ -10,44 +10,23 @@ use Rattle.annotation_cli.specs.declared.trouble.Trouble.{Trouble}
 use Rattle.annotation_cli.specs.declared.trouble.Trouble.TheVariants as trouble
 use Rattle.annotation_cli.specs.Files.{HasConf, ConfRefused, HoldsText, TextRefused}
 
--- the types of a configuration that the first desk serves: annotations may have each of them, at most 63, and no line refuses an overlap
-abbrev pub types_served : Configuration → Option (List (List ℕ))
-types_served conf =
-    if (length conf.overlaps == 0) && (list_all (λ row. row.usable) conf.types && nat_le (length conf.types) 63)
-    then Some (map (λ row. row.name) conf.types) else None
-
--- why a configuration gives the first desk no types
-abbrev pub TypesRefused : Configuration → Trouble → Type 0
-TypesRefused conf trouble.ConfNotYet = types_served conf ≡ None
-TypesRefused conf trouble.Memory = ⊤
-TypesRefused conf why = ⊥
-
 -- the desk that two files found: nothing is marked
 pub record FoundsDesk (conf_file text_file : Option (Option (List ℕ))) (desk : DeskState) : Type 0 where
-  pub conf : Configuration
-  pub conf_is : HasConf conf_file conf
-  pub types : types_served conf ≡ Some desk.types
+  pub conf_is : HasConf conf_file desk.conf
   pub text_is : HoldsText text_file desk.text
-  pub empty : desk.spans ≡ []
+  pub empty : desk.base ≡ no_marks
+  pub none_done : desk.done ≡ []
+  pub none_undone : desk.undone ≡ []
 
--- the configuration is one that the first desk does not serve
-pub record NotServed (conf_file : Option (Option (List ℕ))) : Type 0 where
-  pub conf : Configuration
-  pub conf_is : HasConf conf_file conf
-  pub not_served : types_served conf ≡ None
-
--- the configuration is served, and the text is at fault
+-- the configuration is read, and the text is at fault
 pub record TextAtFault (conf_file text_file : Option (Option (List ℕ))) (before now : ℕ) (why : Trouble) : Type 0 where
   pub conf : Configuration
   pub conf_is : HasConf conf_file conf
-  pub types : List (List ℕ)
-  pub served : types_served conf ≡ Some types
   pub told : TextRefused text_file before now why
 
 -- why there is no desk; the configuration is judged before the text is read
 abbrev pub NoDesk : (conf_file text_file : Option (Option (List ℕ))) → (before now : ℕ) → Trouble → Type 0
-NoDesk conf_file text_file before now why =
-    ConfRefused conf_file before now why ⊎ (((why ≡ trouble.ConfNotYet) × NotServed conf_file) ⊎ TextAtFault conf_file text_file before now why)
+NoDesk conf_file text_file before now why = ConfRefused conf_file before now why ⊎ TextAtFault conf_file text_file before now why
 
 -- the desk, or why there is none
 abbrev pub OpeningTold : (conf_file text_file : Option (Option (List ℕ))) → (before now : ℕ) → Result DeskState Trouble → Type 0

@@ -63,7 +63,6 @@ fn folder(alloc: Global, fails: Vec<u64>) -> Result<MemoryFolder, Fail> {
         ("smile", b"\xf0\x9f\x98\x80 Ann".as_slice()),
         ("bytes", b"Ann \xff".as_slice()),
         ("twice", b"[entities]\nPerson\nPerson\n".as_slice()),
-        ("orders", b"[entities]\n!Agent\n\tPerson\n".as_slice()),
         ("none", b"[entities]\n".as_slice()),
         ("all", CONFIGURATION),
         ("news", b"Ann met Bob in Rome".as_slice()),
@@ -137,7 +136,7 @@ const NO_COMMANDS: [&[&str]; 10] = [
 ];
 
 /// Commands of which one file is at fault, with their status and what they say.
-const FAULTY_FILES: [(&[&str], u8, &str); 20] = [
+const FAULTY_FILES: [(&[&str], u8, &str); 19] = [
     (&["try", "nowhere", "text"], 3, "file: Absent\n"),
     (&["try", "conf", "nowhere"], 3, "file: Absent\n"),
     (
@@ -148,7 +147,6 @@ const FAULTY_FILES: [(&[&str], u8, &str); 20] = [
     (&["try", "text", "text"], 3, "conf line 1: OutsideSection\n"),
     (&["try", "twice", "text"], 3, "conf line 3: NameTwice\n"),
     (&["try", "bytes", "text"], 3, "conf line 1: NotUtf8\n"),
-    (&["try", "orders", "text"], 3, "conf: NotYet\n"),
     (&["try", "conf", "bytes"], 3, "text: NotUtf8\n"),
     (&["try", "conf", "long"], 3, "text: TooLong\n"),
     (&["verify", "nowhere", "text", "empty"], 3, "file: Absent\n"),
@@ -205,6 +203,7 @@ fn words_are_judged_before_anything_is_read(rt: HostRuntime) -> Result<(), Fail>
 fn files_are_judged_before_anything_is_served(rt: HostRuntime) -> Result<(), Fail> {
     let alloc = rt.alloc();
     expect_run(alloc, &rt, &["try", "conf", "text"], NONE, OUTPUT, (0, ""))?;
+    expect_run(alloc, &rt, &["try", "all", "news"], NONE, OUTPUT, (0, ""))?;
     expect_run(
         alloc,
         &rt,

@@ -1,10 +1,10 @@
 //! Why a run does not do its job, and the line and the status that say so.
 ghost use Rattle.std.specs.Prelude.{◌≡◌, ◌++◌, IfOk, codes, decimal, option_map, string_bytes};
-ghost use Rattle.annotation_cli.specs.Troubles.{ann_name, at_line, conf_name, fixed_line, numbered_line, rule_name, status_of};
+ghost use Rattle.annotation_cli.specs.Troubles.{ann_name, at_line, conf_name, fixed_line, numbered_line, status_of};
 
 use ann_reader::AnnWhat;
 use annotation_conf::ConfWhat;
-use layer_model::Rule;
+use annotation_http::rule_name;
 use mark_base::Memory;
 use std::alloc::Global;
 
@@ -15,8 +15,6 @@ pub enum Trouble {
     Usage,
     /// The first fault of a configuration, on a line that is counted from 1.
     Conf { line: u32, what: ConfWhat },
-    /// A configuration that `try` does not serve yet.
-    ConfNotYet,
     /// The first fault of an .ann file, on a line that is counted from 1.
     Ann { line: u32, what: AnnWhat },
     /// A text that is not UTF-8.
@@ -70,41 +68,6 @@ fn conf_name(what: ConfWhat) -> &'static str
     }
 }
 
-/// The name of a rule, without what it carries.
-fn rule_name(rule: Rule) -> &'static str
-    ensures { result.now ≡ rule_name rule }
-{
-    match rule {
-        Rule::UnknownType => "UnknownType",
-        Rule::NotForUse => "NotForUse",
-        Rule::BadFragments => "BadFragments",
-        Rule::OutOfText => "OutOfText",
-        Rule::SpanTooLong => "SpanTooLong",
-        Rule::NoSuch(_) => "NoSuch",
-        Rule::WrongKind(_) => "WrongKind",
-        Rule::UnknownRole => "UnknownRole",
-        Rule::ArgumentType(_) => "ArgumentType",
-        Rule::TooMany(_) => "TooMany",
-        Rule::NoSuchArgument => "NoSuchArgument",
-        Rule::UnknownValue => "UnknownValue",
-        Rule::TooDeep => "TooDeep",
-        Rule::SameSpan(_) => "SameSpan",
-        Rule::SameEvent(_) => "SameEvent",
-        Rule::SameRelation(_) => "SameRelation",
-        Rule::AttributeThere(_) => "AttributeThere",
-        Rule::EquivMembers => "EquivMembers",
-        Rule::OverlapRefused(_) => "OverlapRefused",
-        Rule::InUse(_) => "InUse",
-        Rule::BadText => "BadText",
-        Rule::LayerFull(_) => "LayerFull",
-        Rule::IdsUsedUp(_) => "IdsUsedUp",
-        Rule::TooFew(_, _) => "TooFew",
-        Rule::DeskFull => "DeskFull",
-        Rule::NothingToUndo => "NothingToUndo",
-        Rule::NothingToRedo => "NothingToRedo",
-    }
-}
-
 /// What is said of a fault of an .ann file: its name, and the place or the rule that it carries.
 fn ann_name(alloc: Global, what: AnnWhat) -> Result<String, Memory>
     ensures { IfOk result (λ name. string_bytes name ≡ ann_name what) }
@@ -153,7 +116,6 @@ impl Trouble {
         match self {
             Trouble::Usage => Some("usage\n"),
             Trouble::Conf { .. } => None,
-            Trouble::ConfNotYet => Some("conf: NotYet\n"),
             Trouble::Ann { .. } => None,
             Trouble::TextNotUtf8 => Some("text: NotUtf8\n"),
             Trouble::TextTooLong => Some("text: TooLong\n"),

@@ -2,8 +2,7 @@
 use crate::{Ending, FirstDesk, serve_link};
 use annotation_conf::read_conf;
 use char_documents::Doc;
-use http_wire::Message;
-use mark_base::{Bytes, Memory, MemoryLink, Text};
+use mark_base::{Bytes, Memory, MemoryLink};
 use std::alloc::Global;
 use std::process::Abort;
 use std::test::Fail;
@@ -202,45 +201,74 @@ const MEETING: &str =
 /// A request of the desk's annotator: its method, its path and its body.
 type Request = (&'static str, &'static str, &'static str);
 
-/// A message of the desk's annotator.
-fn message(alloc: Global, request: &Request) -> Result<Message, Fail> {
-    let (method, path, body) = *request;
-    Ok(Message {
-        method: Text::of(alloc, method)?,
-        path: Text::of(alloc, path)?,
-        caller: Some(Text::of(alloc, "you")?),
-        body: Bytes::of(alloc, body.as_bytes())?,
-        last: false,
-    })
-}
+/// An answer: its status and its body.
+type Answered = (&'static str, &'static str);
 
-/// Appends the status and the body of the answer to a request, on a line.
-fn answer(
-    alloc: Global,
-    desk: &mut FirstDesk,
-    request: &Request,
-    said: &mut Vec<u8>,
-) -> Result<(), Fail> {
-    let message = message(alloc, request)?;
-    if message.body.items().len() > 4_194_304 {
-        return Err(Fail::from(Memory));
-    }
-    let answer = desk.answer(&message)?;
-    said.extend_from_slice(answer.status.to_string(alloc)?.as_bytes())?;
-    said.extend_from_slice(b" ")?;
-    said.extend_from_slice(answer.body.items())?;
-    said.extend_from_slice(b"\n")?;
+/// Appends the bytes of a request.
+fn push_request(alloc: Global, input: &mut Vec<u8>, request: &Request) -> Result<(), Fail> {
+    let (method, path, body) = *request;
+    input.extend_from_slice(method.as_bytes())?;
+    input.extend_from_slice(b" ")?;
+    input.extend_from_slice(path.as_bytes())?;
+    input.extend_from_slice(b" HTTP/1.1\r\nCaller: you\r\nContent-Length: ")?;
+    input.extend_from_slice(body.len().to_string(alloc)?.as_bytes())?;
+    input.extend_from_slice(b"\r\n\r\n")?;
+    input.extend_from_slice(body.as_bytes())?;
     Ok(())
 }
 
-/// What a desk on a text says to requests in turn, a line an answer.
-fn talk(alloc: Global, text: &str, requests: &[Request]) -> Result<Vec<u8>, Fail> {
-    let mut desk = desk_for(alloc, CONF, text)?;
-    let mut said = Vec::new(alloc);
-    for request in requests {
-        answer(alloc, &mut desk, request, &mut said)?;
+/// Appends the bytes of an answer; what shows a layer is plain text.
+fn push_answer(alloc: Global, output: &mut Vec<u8>, answer: &Answered) -> Result<(), Fail> {
+    let (status, body) = *answer;
+    output.extend_from_slice(b"HTTP/1.1 ")?;
+    output.extend_from_slice(status.as_bytes())?;
+    if body.starts_with("{") {
+        output.extend_from_slice(b"\r\nContent-Type: application/json\r\nContent-Length: ")?;
+    } else {
+        output.extend_from_slice(
+            b"\r\nContent-Type: text/plain; charset=utf-8\r\nContent-Length: ",
+        )?;
     }
-    Ok(said)
+    output.extend_from_slice(body.len().to_string(alloc)?.as_bytes())?;
+    output.extend_from_slice(b"\r\nPlace: 3\r\n\r\n")?;
+    output.extend_from_slice(body.as_bytes())?;
+    Ok(())
+}
+
+/// Whether a desk, over one connection with this input, gives these answers and no more.
+fn gives(
+    alloc: Global,
+    desk: &mut FirstDesk,
+    input: &[u8],
+    answers: &[Answered],
+) -> Result<bool, Fail> {
+    let mut output = Vec::new(alloc);
+    for answer in answers {
+        push_answer(alloc, &mut output, answer)?;
+    }
+    let mut link = MemoryLink::new(
+        alloc,
+        Bytes::of(alloc, input)?,
+        Vec::new(alloc),
+        Vec::new(alloc),
+    );
+    let ending = serve_link(alloc, desk, &mut link);
+    Ok(ending == Ending::End && link.written() == output.as_slice())
+}
+
+/// Whether a desk on a text answers requests in turn so, over one connection.
+fn answers(
+    alloc: Global,
+    text: &str,
+    requests: &[Request],
+    answers: &[Answered],
+) -> Result<bool, Fail> {
+    let mut desk = desk_for(alloc, CONF, text)?;
+    let mut input = Vec::new(alloc);
+    for request in requests {
+        push_request(alloc, &mut input, request)?;
+    }
+    gives(alloc, &mut desk, input.as_slice(), answers)
 }
 
 const UNDO: Request = ("POST", "/desk/undo", "");
@@ -251,167 +279,190 @@ const SHOW: Request = ("GET", "/desk", "");
 
 const LOAD_MEETING: Request = ("POST", "/desk/load", MEETING);
 
+const OK: &str = "200 OK";
+
+const CONFLICT: &str = "409 Conflict";
+
+const CONTENT: &str = "422 Unprocessable Entity";
+
+/// A command.
+const fn asks(body: &'static str) -> Request {
+    ("POST", "/desk/do", body)
+}
+
+/// A file to load.
+const fn loads(file: &'static str) -> Request {
+    ("POST", "/desk/load", file)
+}
+
 #[test]
 fn a_purge_takes_all_that_names_it_and_undo_gives_it_back(rt: HostRuntime) -> Result<(), Fail> {
-    let purge = ("POST", "/desk/do", r#"{"do":"purge","id":"T1"}"#);
-    let said = talk(rt.alloc(), MET, &[LOAD_MEETING, purge, SHOW, UNDO, SHOW])?;
-    assert_eq!(rt;
-        said.as_slice(),
-        b"200 {\"made\":null}\n200 {\"made\":null}\n200 T2\tPerson 8 11\tBob\nT3\tLocation 15 19\tRome\nT9\tMeet 4 7\tmet\n\n200 {\"done\":1,\"undone\":1}\n200 T1\tPerson 0 3\tAnn\nT2\tPerson 8 11\tBob\nT3\tLocation 15 19\tRome\nT9\tMeet 4 7\tmet\nE1\tMeet:T9 Who:T1 Who2:T2 Place:T3\nR1\tLocated Arg1:T1 Arg2:T3\n\n".as_slice()
-    );
+    let requests = [
+        LOAD_MEETING,
+        asks(r#"{"do":"purge","id":"T1"}"#),
+        SHOW,
+        UNDO,
+        SHOW,
+    ];
+    let told = [
+        (OK, r#"{"made":null}"#),
+        (OK, r#"{"made":null}"#),
+        (
+            OK,
+            "T2\tPerson 8 11\tBob\nT3\tLocation 15 19\tRome\nT9\tMeet 4 7\tmet\n",
+        ),
+        (OK, r#"{"done":1,"undone":1}"#),
+        (
+            OK,
+            "T1\tPerson 0 3\tAnn\nT2\tPerson 8 11\tBob\nT3\tLocation 15 19\tRome\nT9\tMeet 4 7\tmet\nE1\tMeet:T9 Who:T1 Who2:T2 Place:T3\nR1\tLocated Arg1:T1 Arg2:T3\n",
+        ),
+    ];
+    assert!(rt; answers(rt.alloc(), MET, &requests, &told)?);
     Ok(())
 }
 
 #[test]
 fn what_is_named_is_not_deleted(rt: HostRuntime) -> Result<(), Fail> {
-    let delete = ("POST", "/desk/do", r#"{"do":"delete","id":"T1"}"#);
-    let said = talk(rt.alloc(), MET, &[LOAD_MEETING, delete])?;
-    assert_eq!(rt;
-        said.as_slice(),
-        b"200 {\"made\":null}\n422 {\"of\":\"E1\",\"refused\":\"InUse\"}\n".as_slice()
-    );
+    let requests = [LOAD_MEETING, asks(r#"{"do":"delete","id":"T1"}"#)];
+    let told = [
+        (OK, r#"{"made":null}"#),
+        (CONTENT, r#"{"of":"E1","refused":"InUse"}"#),
+    ];
+    assert!(rt; answers(rt.alloc(), MET, &requests, &told)?);
     Ok(())
 }
 
 #[test]
 fn a_role_is_filled_as_often_as_it_may_be(rt: HostRuntime) -> Result<(), Fail> {
-    let place = (
-        "POST",
-        "/desk/do",
-        r#"{"do":"add-arg","id":"E1","arg":"Place:T3"}"#,
-    );
-    let said = talk(rt.alloc(), MET, &[LOAD_MEETING, place])?;
-    assert_eq!(rt;
-        said.as_slice(),
-        b"200 {\"made\":null}\n422 {\"of\":\"Place\",\"refused\":\"TooMany\"}\n".as_slice()
-    );
+    let requests = [
+        LOAD_MEETING,
+        asks(r#"{"do":"add-arg","id":"E1","arg":"Place:T3"}"#),
+    ];
+    let told = [
+        (OK, r#"{"made":null}"#),
+        (CONTENT, r#"{"of":"Place","refused":"TooMany"}"#),
+    ];
+    assert!(rt; answers(rt.alloc(), MET, &requests, &told)?);
     Ok(())
 }
 
 #[test]
 fn an_event_with_too_few_arguments_stands_on_a_desk(rt: HostRuntime) -> Result<(), Fail> {
-    let load = (
-        "POST",
-        "/desk/load",
-        "T1\tPerson 0 3\tAnn\nT2\tPair 4 7\tmet\n",
-    );
-    let pair = (
-        "POST",
-        "/desk/do",
-        r#"{"do":"add-event","type":"Pair","trigger":"T2","args":["Member:T1"]}"#,
-    );
-    let said = talk(rt.alloc(), MET, &[load, pair])?;
-    assert_eq!(rt;
-        said.as_slice(),
-        b"200 {\"made\":null}\n200 {\"made\":\"E1\"}\n".as_slice()
-    );
+    let requests = [
+        loads("T1\tPerson 0 3\tAnn\nT2\tPair 4 7\tmet\n"),
+        asks(r#"{"do":"add-event","type":"Pair","trigger":"T2","args":["Member:T1"]}"#),
+    ];
+    let told = [(OK, r#"{"made":null}"#), (OK, r#"{"made":"E1"}"#)];
+    assert!(rt; answers(rt.alloc(), MET, &requests, &told)?);
     Ok(())
 }
 
 #[test]
 fn the_greatest_number_is_used_up(rt: HostRuntime) -> Result<(), Fail> {
-    let load = ("POST", "/desk/load", "T999999999\tPerson 0 3\tAnn\n");
-    let add = (
-        "POST",
-        "/desk/do",
-        r#"{"do":"add-span","type":"Person","at":"4 7"}"#,
-    );
-    let said = talk(rt.alloc(), MET, &[load, add])?;
-    assert_eq!(rt;
-        said.as_slice(),
-        b"200 {\"made\":null}\n422 {\"of\":\"T\",\"refused\":\"IdsUsedUp\"}\n".as_slice()
-    );
+    let requests = [
+        loads("T999999999\tPerson 0 3\tAnn\n"),
+        asks(r#"{"do":"add-span","type":"Person","at":"4 7"}"#),
+    ];
+    let told = [
+        (OK, r#"{"made":null}"#),
+        (CONTENT, r#"{"of":"T","refused":"IdsUsedUp"}"#),
+    ];
+    assert!(rt; answers(rt.alloc(), MET, &requests, &told)?);
     Ok(())
 }
 
 #[test]
 fn nothing_is_undone_or_redone_at_first(rt: HostRuntime) -> Result<(), Fail> {
-    let said = talk(rt.alloc(), MET, &[UNDO, REDO])?;
-    assert_eq!(rt;
-        said.as_slice(),
-        b"409 {\"refused\":\"NothingToUndo\"}\n409 {\"refused\":\"NothingToRedo\"}\n".as_slice()
-    );
+    let requests = [UNDO, REDO];
+    let told = [
+        (CONFLICT, r#"{"refused":"NothingToUndo"}"#),
+        (CONFLICT, r#"{"refused":"NothingToRedo"}"#),
+    ];
+    assert!(rt; answers(rt.alloc(), MET, &requests, &told)?);
     Ok(())
 }
 
 #[test]
 fn a_command_ends_what_may_be_redone(rt: HostRuntime) -> Result<(), Fail> {
-    let ann = (
-        "POST",
-        "/desk/do",
-        r#"{"do":"add-span","type":"Person","at":"0 3"}"#,
-    );
-    let bob = (
-        "POST",
-        "/desk/do",
-        r#"{"do":"add-span","type":"Person","at":"8 11"}"#,
-    );
-    let said = talk(rt.alloc(), MET, &[ann, UNDO, REDO, UNDO, bob, REDO])?;
-    assert_eq!(rt;
-        said.as_slice(),
-        b"200 {\"made\":\"T1\"}\n200 {\"done\":0,\"undone\":1}\n200 {\"done\":1,\"undone\":0}\n200 {\"done\":0,\"undone\":1}\n200 {\"made\":\"T1\"}\n409 {\"refused\":\"NothingToRedo\"}\n".as_slice()
-    );
+    let requests = [
+        asks(r#"{"do":"add-span","type":"Person","at":"0 3"}"#),
+        UNDO,
+        REDO,
+        UNDO,
+        asks(r#"{"do":"add-span","type":"Person","at":"8 11"}"#),
+        REDO,
+    ];
+    let told = [
+        (OK, r#"{"made":"T1"}"#),
+        (OK, r#"{"done":0,"undone":1}"#),
+        (OK, r#"{"done":1,"undone":0}"#),
+        (OK, r#"{"done":0,"undone":1}"#),
+        (OK, r#"{"made":"T1"}"#),
+        (CONFLICT, r#"{"refused":"NothingToRedo"}"#),
+    ];
+    assert!(rt; answers(rt.alloc(), MET, &requests, &told)?);
     Ok(())
 }
 
 #[test]
 fn a_fault_of_a_load_has_its_line(rt: HostRuntime) -> Result<(), Fail> {
-    let twice = (
-        "POST",
-        "/desk/load",
-        "T1\tPerson 0 3\tAnn\nT1\tPerson 8 11\tBob\n",
-    );
-    let anm = ("POST", "/desk/load", "\nT1\tPerson 0 3\tAnm\n");
-    let said = talk(rt.alloc(), MET, &[twice, anm])?;
-    assert_eq!(rt;
-        said.as_slice(),
-        b"422 {\"line\":2,\"refused\":\"IdTwice\"}\n422 {\"line\":2,\"of\":\"2\",\"refused\":\"WrongText\"}\n".as_slice()
-    );
+    let requests = [
+        loads("T1\tPerson 0 3\tAnn\nT1\tPerson 8 11\tBob\n"),
+        loads("\nT1\tPerson 0 3\tAnm\n"),
+    ];
+    let told = [
+        (CONTENT, r#"{"line":2,"refused":"IdTwice"}"#),
+        (CONTENT, r#"{"line":2,"of":"2","refused":"WrongText"}"#),
+    ];
+    assert!(rt; answers(rt.alloc(), MET, &requests, &told)?);
     Ok(())
 }
 
 #[test]
 fn a_broken_rule_of_a_load_has_its_line(rt: HostRuntime) -> Result<(), Fail> {
-    let behind = ("POST", "/desk/load", "T1\tPerson 0 99\tAnn\n");
-    let same = (
-        "POST",
-        "/desk/load",
-        "T1\tPerson 0 3\tAnn\nT2\tPerson 0 3\tAnn\n",
-    );
-    let said = talk(rt.alloc(), MET, &[behind, same])?;
-    assert_eq!(rt;
-        said.as_slice(),
-        b"422 {\"line\":1,\"refused\":\"OutOfText\"}\n422 {\"line\":2,\"of\":\"T1\",\"refused\":\"SameSpan\"}\n".as_slice()
-    );
+    let requests = [
+        loads("T1\tPerson 0 99\tAnn\n"),
+        loads("T1\tPerson 0 3\tAnn\nT2\tPerson 0 3\tAnn\n"),
+    ];
+    let told = [
+        (CONTENT, r#"{"line":1,"refused":"OutOfText"}"#),
+        (CONTENT, r#"{"line":2,"of":"T1","refused":"SameSpan"}"#),
+    ];
+    assert!(rt; answers(rt.alloc(), MET, &requests, &told)?);
     Ok(())
 }
 
 #[test]
 fn a_load_that_is_refused_leaves_what_stood(rt: HostRuntime) -> Result<(), Fail> {
-    let bob = ("POST", "/desk/load", "T2\tPerson 8 11\tBob\n");
-    let refused = ("POST", "/desk/load", "T3\tPerson 0 3\tBob\n");
-    let said = talk(rt.alloc(), MET, &[bob, refused, UNDO, SHOW])?;
-    assert_eq!(rt;
-        said.as_slice(),
-        b"200 {\"made\":null}\n422 {\"line\":1,\"of\":\"0\",\"refused\":\"WrongText\"}\n200 {\"done\":0,\"undone\":1}\n200 \n".as_slice()
-    );
+    let requests = [
+        loads("T2\tPerson 8 11\tBob\n"),
+        loads("T3\tPerson 0 3\tBob\n"),
+        UNDO,
+        SHOW,
+    ];
+    let told = [
+        (OK, r#"{"made":null}"#),
+        (CONTENT, r#"{"line":1,"of":"0","refused":"WrongText"}"#),
+        (OK, r#"{"done":0,"undone":1}"#),
+        (OK, ""),
+    ];
+    assert!(rt; answers(rt.alloc(), MET, &requests, &told)?);
     Ok(())
 }
 
 #[test]
 fn bodies_of_no_form_are_refused(rt: HostRuntime) -> Result<(), Fail> {
-    let empty = ("POST", "/desk/do", "");
-    let unknown = ("POST", "/desk/do", r#"{"do":"load"}"#);
-    let more = (
-        "POST",
-        "/desk/do",
-        r#"{"do":"delete","id":"T1","at":"0 3"}"#,
-    );
-    let said = talk(rt.alloc(), MET, &[empty, unknown, more])?;
-    assert_eq!(rt;
-        said.as_slice(),
-        b"400 {\"refused\":\"BadBody\"}\n400 {\"refused\":\"BadBody\"}\n400 {\"refused\":\"BadBody\"}\n".as_slice()
-    );
+    let requests = [
+        asks(""),
+        asks(r#"{"do":"load"}"#),
+        asks(r#"{"do":"delete","id":"T1","at":"0 3"}"#),
+    ];
+    let told = [
+        ("400 Bad Request", r#"{"refused":"BadBody"}"#),
+        ("400 Bad Request", r#"{"refused":"BadBody"}"#),
+        ("400 Bad Request", r#"{"refused":"BadBody"}"#),
+    ];
+    assert!(rt; answers(rt.alloc(), MET, &requests, &told)?);
     Ok(())
 }
 
@@ -419,30 +470,29 @@ fn bodies_of_no_form_are_refused(rt: HostRuntime) -> Result<(), Fail> {
 fn a_full_desk_takes_no_command_until_one_is_undone(rt: HostRuntime) -> Result<(), Fail> {
     let alloc = rt.alloc();
     let mut desk = desk_for(alloc, CONF, MET)?;
-    let add = (
-        "POST",
-        "/desk/do",
-        r#"{"do":"add-span","type":"Person","at":"0 3"}"#,
-    );
-    let note = (
-        "POST",
-        "/desk/do",
-        r#"{"do":"set-note","of":"T1","type":"Seen","text":""}"#,
-    );
-    let unread = ("POST", "/desk/load", "T1");
+    let note = asks(r#"{"do":"set-note","of":"T1","type":"Seen","text":""}"#);
     let mut before = Vec::new(alloc);
-    answer(alloc, &mut desk, &add, &mut before)?;
+    push_request(
+        alloc,
+        &mut before,
+        &asks(r#"{"do":"add-span","type":"Person","at":"0 3"}"#),
+    )?;
     for _ in 1..4_096 {
-        answer(alloc, &mut desk, &note, &mut before)?;
+        push_request(alloc, &mut before, &note)?;
     }
-    let mut said = Vec::new(alloc);
-    for request in [note, unread, UNDO, note, REDO] {
-        answer(alloc, &mut desk, &request, &mut said)?;
+    gives(alloc, &mut desk, before.as_slice(), &[])?;
+    let mut input = Vec::new(alloc);
+    for request in [note, loads("T1"), UNDO, note, REDO] {
+        push_request(alloc, &mut input, &request)?;
     }
-    assert_eq!(rt;
-        said.as_slice(),
-        b"409 {\"refused\":\"DeskFull\"}\n422 {\"line\":1,\"refused\":\"BadLine\"}\n200 {\"done\":4095,\"undone\":1}\n200 {\"made\":null}\n409 {\"refused\":\"NothingToRedo\"}\n".as_slice()
-    );
+    let told = [
+        (CONFLICT, r#"{"refused":"DeskFull"}"#),
+        (CONTENT, r#"{"line":1,"refused":"BadLine"}"#),
+        (OK, r#"{"done":4095,"undone":1}"#),
+        (OK, r#"{"made":null}"#),
+        (CONFLICT, r#"{"refused":"NothingToRedo"}"#),
+    ];
+    assert!(rt; gives(alloc, &mut desk, input.as_slice(), &told)?);
     Ok(())
 }
 
@@ -453,18 +503,21 @@ const OVERLAPS: &str =
 fn overlaps_are_judged_by_the_configuration(rt: HostRuntime) -> Result<(), Fail> {
     let alloc = rt.alloc();
     let mut desk = desk_for(alloc, OVERLAPS, "New York City")?;
-    let mut said = Vec::new(alloc);
+    let mut input = Vec::new(alloc);
     for body in [
         r#"{"do":"add-span","type":"Location","at":"0 8"}"#,
         r#"{"do":"add-span","type":"Location","at":"4 13"}"#,
         r#"{"do":"add-span","type":"Person","at":"0 8"}"#,
         r#"{"do":"add-span","type":"Location","at":"4 8"}"#,
     ] {
-        answer(alloc, &mut desk, &("POST", "/desk/do", body), &mut said)?;
+        push_request(alloc, &mut input, &asks(body))?;
     }
-    assert_eq!(rt;
-        said.as_slice(),
-        b"200 {\"made\":\"T1\"}\n422 {\"of\":\"T1\",\"refused\":\"OverlapRefused\"}\n422 {\"of\":\"T1\",\"refused\":\"OverlapRefused\"}\n200 {\"made\":\"T2\"}\n".as_slice()
-    );
+    let told = [
+        (OK, r#"{"made":"T1"}"#),
+        (CONTENT, r#"{"of":"T1","refused":"OverlapRefused"}"#),
+        (CONTENT, r#"{"of":"T1","refused":"OverlapRefused"}"#),
+        (OK, r#"{"made":"T2"}"#),
+    ];
+    assert!(rt; gives(alloc, &mut desk, input.as_slice(), &told)?);
     Ok(())
 }
