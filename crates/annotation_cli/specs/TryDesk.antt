@@ -55,14 +55,18 @@ pub record ServesNothing (conf_file text_file : Option (Option (List ℕ))) (fau
   pub unread : now ≡ left
   pub unwritten : written ≡ before
 
+-- the console was served from a desk, up to an ending that comes to this
+pub record ServedDesk (desk new : DeskState) (left now before written : Option (List ℕ)) (done : Result (Unit {0}) Trouble) : Type 0 where
+  pub end : Ending
+  pub session : SessionTold desk new left now before written end
+  pub came : done ≡ ending_of end
+
 -- the console was served from the desk of the files
 pub record Serves (conf_file text_file : Option (Option (List ℕ))) (left now before written : Option (List ℕ)) (done : Result (Unit {0}) Trouble) : Type 0 where
   pub desk : DeskState
   pub founds : FoundsDesk conf_file text_file desk
   pub new : DeskState
-  pub end : Ending
-  pub session : SessionTold desk new left now before written end
-  pub came : done ≡ ending_of end
+  pub served : ServedDesk desk new left now before written done
 
 -- what `try` does
 abbrev pub TryTold : (conf_file text_file : Option (Option (List ℕ))) → (faults_before faults_now : ℕ) → (left now before written : Option (List ℕ)) → Result (Unit {0}) Trouble → Type 0

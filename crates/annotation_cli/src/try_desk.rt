@@ -1,7 +1,7 @@
 //! The command `try`: one desk on a configuration and a text, served on the console.
-ghost use Rattle.std.specs.Prelude.{◌≡◌, ◌≤◌, IfErr};
+ghost use Rattle.std.specs.Prelude.{◌≡◌, ◌≢◌, ◌≤◌, IfErr};
 ghost use Rattle.mark_base.specs.Streams.{Rose};
-ghost use Rattle.annotation_cli.specs.TryDesk.{OpeningTold, TryTold, ending_of};
+ghost use Rattle.annotation_cli.specs.TryDesk.{OpeningTold, ServedDesk, TryTold, ending_of};
 
 use crate::asked::TryFiles;
 use crate::files::{read_conf_file, read_text_file};
@@ -46,6 +46,20 @@ fn ending_of(ending: Ending) -> Result<(), Trouble>
     }
 }
 
+/// Serves the console from a desk.
+fn serve_desk<C: Link>(
+    alloc: Global,
+    desk: &mut FirstDesk,
+    console: &mut C,
+) -> Result<(), Trouble>
+    ensures told { ServedDesk desk.old desk.new (C.left console.old) (C.left console.new) (C.held console.old) (C.held console.new) result }
+    ensures folder { IfErr result (λ trouble. trouble ≢ Trouble.FileFailed) }
+    ensures read { IfErr result (λ trouble. trouble ≡ Trouble.ReadFault → Rose (C.read_faults console.old) (C.read_faults console.new)) }
+    ensures write { IfErr result (λ trouble. trouble ≡ Trouble.WriteFault → Rose (C.write_faults console.old) (C.write_faults console.new)) }
+{
+    ending_of(serve_link(alloc, desk, console))
+}
+
 /// Serves the console from a desk on two files.
 pub(crate) fn try_desk<F: Folder, C: Link>(
     alloc: Global,
@@ -62,5 +76,5 @@ pub(crate) fn try_desk<F: Folder, C: Link>(
     ensures write { IfErr result (λ trouble. trouble ≡ Trouble.WriteFault → Rose (C.write_faults console.old) (C.write_faults console.new)) }
 {
     let mut desk = open_desk(alloc, folder, files)?;
-    ending_of(serve_link(alloc, &mut desk, console))
+    serve_desk(alloc, &mut desk, console)
 }
