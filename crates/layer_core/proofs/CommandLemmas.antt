@@ -9,7 +9,7 @@ use Rattle.layer_model.specs.Rules.{number_of}
 use Rattle.layer_core.specs.declared.command.Command.{Command}
 use Rattle.layer_core.specs.WellFormed.{IsWellFormed, least_flaw}
 use Rattle.layer_core.specs.Drafts.{Draft, draft}
-use Rattle.layer_core.specs.Commands.{lower_rule, first_broken, own_rules, draft_rule, refusal, applied_of, answer_of, apply, Applied}
+use Rattle.layer_core.specs.Commands.{lower_rule, own_rule, draft_rule, refusal, applied_of, answer_of, apply, Applied}
 use Rattle.layer_core.proofs.LawLemmas.{unflawed_is_well_formed}
 
 some_none : {X : Type 0} {x : X} → Some x ≡ None → ⊥
@@ -49,4 +49,4 @@ pub commands_keep : (conf : Configuration) (characters : ℕ) (layer : Annotatio
 unfolding apply
 commands_keep conf characters layer command well =
     answered conf characters (refusal conf characters layer command) (applied_of layer (draft conf layer command))
-    (made_of conf characters layer (first_broken (own_rules conf layer command)) (draft conf layer command) well)
+    (made_of conf characters layer (own_rule conf characters layer command) (draft conf layer command) well)

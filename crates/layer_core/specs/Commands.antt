@@ -4,18 +4,21 @@ use Rattle.std.specs.Option.{option_or, option_map_or}
 use Rattle.mark_base.specs.declared.ann_id.AnnId.{AnnId}
 use Rattle.mark_base.specs.declared.ann_id.Kind.{Kind}
 use Rattle.mark_base.specs.declared.ann_id.Kind.TheVariants as letter
+use Rattle.mark_base.specs.declared.fragments.Frag.{Frag}
 use Rattle.type_hierarchy.specs.TypeTrees.{type_named}
 use Rattle.annotation_conf.specs.Configurations.{Configuration}
 use Rattle.annotation_conf.specs.Lookups.{relation_named, attribute_named, values_of}
 use Rattle.layer_model.specs.declared.mark.Mark.{Mark}
 use Rattle.layer_model.specs.declared.rule.Rule.{Rule}
-use Rattle.layer_model.specs.declared.rule.Rule.TheVariants.{UnknownValue, SameSpan, SameEvent, SameRelation, AttributeThere, OverlapRefused}
+use Rattle.layer_model.specs.declared.rule.Rule.TheVariants.{BadFragments, OutOfText, SpanTooLong, UnknownValue, SameSpan, SameEvent, SameRelation, AttributeThere, OverlapRefused}
 use Rattle.layer_model.specs.Annotations.{Annotations}
 use Rattle.layer_model.specs.Layers.{mark_at}
 use Rattle.layer_model.specs.Rules.{number_of}
 use Rattle.layer_core.specs.declared.command.Command.{Command}
 use Rattle.layer_core.specs.declared.command.Command.TheVariants as ask
+use Rattle.overlap_rules.specs.Overlaps.{last_end, reach}
 use Rattle.layer_core.specs.Ids.{ids_of}
+use Rattle.layer_core.specs.SpanRules.{are_fragments}
 use Rattle.layer_core.specs.Targets.{is_attribute_target, type_of}
 use Rattle.layer_core.specs.Rules.{where_so, first_missing, first_unwanted, Wanted, argument, trigger, member}
 use Rattle.layer_core.specs.PairRules.{is_id, same_spans, same_events, same_relations, same_attributes, refused_overlap}
@@ -52,7 +55,8 @@ own_rules conf layer (ask.AddArg id arg) =
 own_rules conf layer (ask.RemoveArg id arg) =
     first_missing layer (id ∷ arg.target ∷ []) ∷ first_unwanted (of_letters is_event_letter id ∷ argument conf layer arg.target ∷ [])
     ∷ roles_undeclared conf (event_type layer id) (arg ∷ []) ∷ no_such_argument conf layer id arg ∷ []
-own_rules conf layer (ask.AddRelation kind first second) = undeclared (relation_named conf kind) ∷ used_up layer letter.Relation ∷ []
+own_rules conf layer (ask.AddRelation kind first second) =
+    undeclared (relation_named conf kind) ∷ first_missing layer (first ∷ second ∷ []) ∷ used_up layer letter.Relation ∷ []
 own_rules conf layer (ask.SetAttribute kind target value) =
     let found = attribute_named conf kind in
     undeclared found ∷ first_missing layer (target ∷ []) ∷ first_unwanted (attribute_target conf layer target ∷ []) ∷ target_refused conf layer found target
@@ -65,8 +69,9 @@ own_rules conf layer (ask.Equate kind members) =
 own_rules conf layer (ask.Unequate kind id) =
     undeclared (relation_named conf kind) ∷ no_equivalence conf (relation_named conf kind) ∷ first_missing layer (id ∷ [])
     ∷ first_unwanted (member conf layer id ∷ []) ∷ not_in_class layer (relation_named conf kind) id ∷ []
-own_rules conf layer (ask.SetNote target kind text) = new_used_up layer letter.Note (lowest (is_note_on kind target) layer letter.Note) ∷ []
-own_rules conf layer (ask.SetReference target store entry text) = new_used_up layer letter.Normal (lowest (is_reference_to target store entry) layer letter.Normal) ∷ []
+own_rules conf layer (ask.SetNote target kind text) = first_missing layer (target ∷ []) ∷ new_used_up layer letter.Note (lowest (is_note_on kind target) layer letter.Note) ∷ []
+own_rules conf layer (ask.SetReference target store entry text) =
+    first_missing layer (target ∷ []) ∷ new_used_up layer letter.Normal (lowest (is_reference_to target store entry) layer letter.Normal) ∷ []
 own_rules conf layer (ask.Delete id) = first_missing layer (id ∷ []) ∷ in_use layer id ∷ []
 own_rules conf layer (ask.Purge id) = first_missing layer (id ∷ []) ∷ []
 own_rules conf layer (ask.Load loaded) = []
@@ -75,6 +80,21 @@ own_rules conf layer (ask.Load loaded) = []
 abbrev pub first_broken : List (Option Rule) → Option Rule
 first_broken [] = None
 first_broken (broken ∷ more) = option_or broken (first_broken more)
+
+-- the rules that fragments break by themselves
+abbrev pub frags_rule : ℕ → List Frag → Option Rule
+frags_rule characters frags =
+    first_broken
+    (where_so (not (are_fragments frags)) BadFragments ∷ where_so (nat_lt characters (last_end 0 frags)) OutOfText ∷ where_so (nat_lt 10000 (reach frags)) SpanTooLong ∷ [])
+
+-- the rules that the fragments of a move break, whatever its ID leads to
+abbrev pub moved_rule : ℕ → Command → Option Rule
+moved_rule characters (ask.MoveSpan id frags) = frags_rule characters frags
+moved_rule characters command = None
+
+-- the first rule that a command's own fields break
+abbrev pub own_rule : Configuration → ℕ → Annotations → Command → Option Rule
+own_rule conf characters layer command = option_or (moved_rule characters command) (first_broken (own_rules conf layer command))
 
 -- another annotation than the one of an ID makes a pair with a mark
 abbrev pub other_than : (Mark → Mark → Bool) → Annotations → AnnId → Mark → AnnId → Bool
@@ -107,7 +127,7 @@ lower_rule (Some a) (Some b) = if nat_lt (number_of b) (number_of a) then Some b
 -- the first rule by number that a command breaks, by its own fields or by the layer that it makes
 abbrev pub refusal : Configuration → ℕ → Annotations → Command → Option Rule
 refusal conf characters layer command =
-    lower_rule (first_broken (own_rules conf layer command)) (option_and_then (draft_rule conf characters) (draft conf layer command))
+    lower_rule (own_rule conf characters layer command) (option_and_then (draft_rule conf characters) (draft conf layer command))
 
 -- the ID of the new annotation of a draft
 abbrev pub made_by : Draft → Option AnnId

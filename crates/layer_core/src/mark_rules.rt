@@ -94,7 +94,7 @@ pub(crate) fn bad_fragments(span: &Span) -> Option<Rule>
 }
 
 /// Where the last fragment ends, 0 where there is none.
-fn last_end(frags: &[Frag]) -> u32
+pub(crate) fn last_end(frags: &[Frag]) -> u32
     ensures { result ≡ last_end 0 frags.now }
 {
     match frags.last() {

@@ -5,7 +5,7 @@ ghost use Rattle.mark_base.specs.declared.fragments.Frag.{Frag};
 ghost use Rattle.annotation_conf.specs.Lookups.{relation_named};
 ghost use Rattle.layer_core.specs.declared.command.Command.{Command};
 ghost use Rattle.layer_model.specs.declared.rule.Rule.{Rule};
-ghost use Rattle.layer_core.specs.Commands.{first_broken, new_used_up, own_rules, value_unknown};
+ghost use Rattle.layer_core.specs.Commands.{first_broken, frags_rule, moved_rule, new_used_up, own_rules, value_unknown};
 ghost use Rattle.layer_core.specs.Fields.{event_type, has_value, is_attribute_letter, is_event_letter, is_in_class, is_span_letter, members_refused, no_such_argument, not_in_class, of_letters, roles_undeclared, target_refused, used_up, value_at};
 ghost use Rattle.layer_core.specs.PairRules.{is_arg, is_id};
 ghost use Rattle.layer_core.specs.Rules.{argument, first_missing, first_unwanted, trigger, where_so};
@@ -15,7 +15,7 @@ use crate::Command;
 use crate::class_rules::are_bad_members;
 use crate::drafts::is_arg;
 use crate::finds::{attribute_on, first_note, first_reference, in_use, trigger_in_use};
-use crate::mark_rules::{missing, missing_ids, unwanted, unwanted_members, where_so};
+use crate::mark_rules::{last_end, missing, missing_ids, unwanted, unwanted_members, where_so};
 use crate::names::{
     arg_named, barred, event_named, no_equivalence, role_unknown, undeclared_attribute,
     undeclared_relation, undeclared_type,
@@ -24,7 +24,8 @@ use crate::targets::{is_argument, is_attribute_target, is_id, is_member, is_trig
 use crate::valued::{Valued, is_had, is_refused, value_of};
 use annotation_conf::Conf;
 use layer_model::{Class, Layer, RoleAt, Rule};
-use mark_base::{AnnId, Arg, AttrId, Kind, Memory, Name, NamedArg, RelId, TypeId};
+use mark_base::{AnnId, Arg, AttrId, Frag, Kind, Memory, Name, NamedArg, RelId, TypeId};
+use overlap_rules::{are_ascending, reach};
 use std::alloc::Global;
 
 /// The rule on a new annotation of a letter whose greatest number is taken.
@@ -79,6 +80,26 @@ fn retype_span(
     let named = undeclared_type(found).or(barred(conf, found));
     let there = missing(layer, id).or(no_span(id));
     Ok(named.or(there).or(trigger_in_use(alloc, layer, id)?))
+}
+
+/// The rules that fragments break by themselves.
+fn frags_rule(characters: u32, frags: &[Frag]) -> Option<Rule>
+    ensures { result ≡ frags_rule characters frags.now }
+{
+    let fits = !frags.is_empty() && are_ascending(frags);
+    let long = where_so(reach(frags) > 10000, Rule::SpanTooLong);
+    let out = where_so(characters < last_end(frags), Rule::OutOfText);
+    where_so(!fits, Rule::BadFragments).or(out.or(long))
+}
+
+/// The rules that the fragments of a move break, whatever its ID leads to.
+pub(crate) fn moved_rule(characters: u32, command: &Command) -> Option<Rule>
+    ensures { result ≡ moved_rule characters command.now }
+{
+    match command {
+        Command::MoveSpan { frags, .. } => frags_rule(characters, frags.items()),
+        _ => None,
+    }
 }
 
 /// The rules of other fragments.
@@ -219,10 +240,17 @@ fn remove_arg(conf: &Conf, layer: &Layer, id: AnnId, arg: &NamedArg) -> Option<R
 }
 
 /// The rules of a new relation.
-fn add_relation(conf: &Conf, layer: &Layer, kind: &Name) -> Option<Rule>
-    ensures { (first second : _) → result ≡ first_broken (own_rules conf.now layer.now (Command.AddRelation kind.now first second)) }
+fn add_relation(
+    conf: &Conf,
+    layer: &Layer,
+    kind: &Name,
+    first: AnnId,
+    second: AnnId,
+) -> Option<Rule>
+    ensures { result ≡ first_broken (own_rules conf.now layer.now (Command.AddRelation kind.now first second)) }
 {
-    undeclared_relation(conf, kind).or(used_up(layer, Kind::Relation))
+    let named = undeclared_relation(conf, kind).or(missing_two(layer, first, second));
+    named.or(used_up(layer, Kind::Relation))
 }
 
 /// The rule on a target that an attribute does not admit.
@@ -368,7 +396,7 @@ fn set_note(
     ensures { IfOk result (λ rule. (conf text : _) → rule ≡ first_broken (own_rules conf layer.now (Command.SetNote target kind.now text))) }
 {
     let there = first_note(alloc, layer, kind, target)?;
-    Ok(new_used_up(layer, Kind::Note, there))
+    Ok(missing(layer, target).or(new_used_up(layer, Kind::Note, there)))
 }
 
 /// The rules of a text in a reference.
@@ -382,7 +410,7 @@ fn set_reference(
     ensures { IfOk result (λ rule. (conf text : _) → rule ≡ first_broken (own_rules conf layer.now (Command.SetReference target store.now entry.now text))) }
 {
     let there = first_reference(alloc, layer, target, store, entry)?;
-    Ok(new_used_up(layer, Kind::Normal, there))
+    Ok(missing(layer, target).or(new_used_up(layer, Kind::Normal, there)))
 }
 
 /// The rules of an attribute that goes.
@@ -421,7 +449,11 @@ pub(crate) fn own_rule(
         } => Ok(add_event(conf, layer, kind, *trigger, args.items())),
         Command::AddArg { id, arg } => Ok(on_arg(conf, layer, *id, arg)),
         Command::RemoveArg { id, arg } => Ok(remove_arg(conf, layer, *id, arg)),
-        Command::AddRelation { kind, .. } => Ok(add_relation(conf, layer, kind)),
+        Command::AddRelation {
+            kind,
+            first,
+            second,
+        } => Ok(add_relation(conf, layer, kind, *first, *second)),
         Command::SetAttribute {
             kind,
             target,

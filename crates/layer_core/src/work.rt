@@ -10,7 +10,7 @@ ghost use Rattle.layer_core.specs.Works.{IsRefusal};
 
 use crate::draft::Draft;
 use crate::drafts::draft;
-use crate::own_rules::own_rule;
+use crate::own_rules::{moved_rule, own_rule};
 use crate::told::told_of;
 use crate::{CheckFault, Command, Refusal, check};
 use annotation_conf::Conf;
@@ -134,7 +134,8 @@ fn broken_rule(
     requires { option_map draft_of made.now ≡ draft conf.now layer.now command.now }
     ensures { IfOk result (λ rule. rule ≡ refusal conf.now (length doc.now) layer.now command.now) }
 {
-    let own = own_rule(alloc, conf, layer, command)?;
+    let fields = own_rule(alloc, conf, layer, command)?;
+    let own = moved_rule(doc.char_count(), command).or(fields);
     let broken = made_rule(alloc, conf, doc, made)?;
     Ok(lower_rule(own, broken))
 }

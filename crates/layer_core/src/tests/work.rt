@@ -1,7 +1,6 @@
 //! Commands that are carried out, and commands that are refused.
 use super::commands::{command_of, name};
 use super::flaws::{NOTHING, Sign, carried, id_sign, sign};
-use super::outcomes::{Change, Outcome};
 use super::written::written;
 use super::{
     assert_none, cases, conf_of, layer_of, long_text, many_spans, outcomes, put_attributes, rows,
@@ -62,14 +61,23 @@ fn answer(work: &mut Work, command: Command) -> Result<Answer, Memory> {
     }
 }
 
-/// Carries copies of commands out, which are parted by `/`, up to the first that is refused: the answer to
-/// the last.
+/// A copy of the command that a text tells.
+fn copied(alloc: Global, text: &str) -> Result<Command, Memory> {
+    let command = command_of(alloc, text)?;
+    command.copy(alloc)
+}
+
+/// Carries a copy of the command out that a text tells.
+fn answer_to(alloc: Global, work: &mut Work, text: &str) -> Result<Answer, Memory> {
+    let command = copied(alloc, text)?;
+    answer(work, command)
+}
+
+/// Carries commands out, which are parted by `/`, up to the first that is refused: the answer to the last.
 fn run(alloc: Global, work: &mut Work, commands: &str) -> Result<Answer, Memory> {
     let mut last = DONE;
     for text in commands.split('/') {
-        let command = command_of(alloc, text)?;
-        let copy = command.copy(alloc)?;
-        last = answer(work, copy)?;
+        last = answer_to(alloc, work, text.trim())?;
         if last.0 != 0 {
             return Ok(last);
         }
@@ -93,38 +101,58 @@ fn is_same(answer: Answer, wanted: Answer) -> bool {
     answer.0 == wanted.0 && answer.1 == wanted.1
 }
 
-/// Whether commands on the layer of these rows have this outcome.
-fn has_outcome(ground: &Ground, base: &str, outcome: &Outcome) -> Result<bool, Memory> {
-    let (rows, commands, told) = *outcome;
-    let layer = layer_of(ground.alloc, base, rows)?;
+/// A run of commands: the rows of a layer, the commands, and what comes of them.
+#[derive(Clone, Copy)]
+struct Case<'a> {
+    rows: &'a str,
+    commands: &'a str,
+    told: &'a str,
+}
+
+/// The run that a line tells.
+fn case_of(line: &str) -> Option<Case<'_>> {
+    let (rows, rest) = line.split_once('|')?;
+    let (commands, told) = rest.split_once('|')?;
+    Some(Case {
+        rows: rows.trim(),
+        commands: commands.trim(),
+        told: told.trim(),
+    })
+}
+
+/// Whether the run of a line comes to what it tells.
+fn has_outcome(ground: &Ground, base: &str, line: &str) -> Result<bool, Memory> {
+    let Some(outcome) = case_of(line) else {
+        return Ok(false);
+    };
+    let layer = layer_of(ground.alloc, base, outcome.rows)?;
     let mut work = open(ground, layer)?;
-    let answer = run(ground.alloc, &mut work, commands)?;
-    let wanted = answer_of(ground.alloc, told)?;
+    let answer = run(ground.alloc, &mut work, outcome.commands)?;
+    let wanted = answer_of(ground.alloc, outcome.told)?;
     Ok(is_same(answer, wanted))
 }
 
-/// The commands of the first outcome that is another, or nothing.
-fn wrong_in(ground: &Ground, base: &str, outcomes: &[Outcome]) -> Result<&'static str, Memory> {
-    for outcome in outcomes {
-        let same = has_outcome(ground, base, outcome)?;
+/// The first line whose run comes to something else, or nothing.
+fn wrong_in<'a>(ground: &Ground, base: &str, lines: &'a str) -> Result<&'a str, Memory> {
+    for line in lines.split('\n') {
+        let same = has_outcome(ground, base, line)?;
         if !same {
-            let (_, commands, _) = *outcome;
-            return Ok(commands);
+            return Ok(line);
         }
     }
     Ok("")
 }
 
 /// The first wrong outcome under the lines and the text of most cases, on top of the people.
-fn first_wrong(alloc: Global, outcomes: &[Outcome]) -> Result<&'static str, Memory> {
+fn first_wrong(alloc: Global, lines: &'static str) -> Result<&'static str, Memory> {
     let ground = ground_of(alloc, cases::CONF, cases::TEXT)?;
-    wrong_in(&ground, cases::PEOPLE, outcomes)
+    wrong_in(&ground, cases::PEOPLE, lines)
 }
 
 /// The first wrong outcome on no annotation but those of the case.
-fn first_wrong_alone(alloc: Global, outcomes: &[Outcome]) -> Result<&'static str, Memory> {
+fn first_wrong_alone(alloc: Global, lines: &'static str) -> Result<&'static str, Memory> {
     let ground = ground_of(alloc, cases::CONF, cases::TEXT)?;
-    wrong_in(&ground, "-", outcomes)
+    wrong_in(&ground, "-", lines)
 }
 
 #[test]
@@ -250,10 +278,10 @@ fn spans_contain_others_whole(rt: HostRuntime) -> Result<(), Memory> {
 fn first_wrong_person(
     alloc: Global,
     text: &str,
-    outcomes: &[Outcome],
+    lines: &'static str,
 ) -> Result<&'static str, Memory> {
     let ground = ground_of(alloc, "[entities]\nPerson\n", text)?;
-    wrong_in(&ground, "-", outcomes)
+    wrong_in(&ground, "-", lines)
 }
 
 #[test]
@@ -266,10 +294,10 @@ fn spans_are_counted_in_characters(rt: HostRuntime) -> Result<(), Memory> {
 }
 
 /// The first wrong outcome in a text of 10,001 characters.
-fn first_wrong_length(alloc: Global, outcomes: &[Outcome]) -> Result<&'static str, Memory> {
+fn first_wrong_length(alloc: Global, lines: &'static str) -> Result<&'static str, Memory> {
     let text = long_text(alloc, 10_001)?;
     let ground = ground_of(alloc, cases::CONF, text.as_str())?;
-    wrong_in(&ground, cases::PEOPLE, outcomes)
+    wrong_in(&ground, cases::PEOPLE, lines)
 }
 
 #[test]
@@ -279,26 +307,27 @@ fn spans_reach_over_10000_characters_at_most(rt: HostRuntime) -> Result<(), Memo
     Ok(())
 }
 
-/// Whether commands on the layer of these rows make the layer of others.
-fn makes(ground: &Ground, change: &Change) -> Result<bool, Memory> {
-    let (rows, commands, after) = *change;
-    let layer = layer_of(ground.alloc, rows, "-")?;
+/// Whether the run of a line makes the layer that it tells.
+fn makes(ground: &Ground, line: &str) -> Result<bool, Memory> {
+    let Some(change) = case_of(line) else {
+        return Ok(false);
+    };
+    let layer = layer_of(ground.alloc, change.rows, "-")?;
     let mut work = open(ground, layer)?;
-    let _ = run(ground.alloc, &mut work, commands)?;
-    let wanted = layer_of(ground.alloc, after, "-")?;
+    let _ = run(ground.alloc, &mut work, change.commands)?;
+    let wanted = layer_of(ground.alloc, change.told, "-")?;
     let wanted = written(ground.alloc, &wanted)?;
     let found = written(ground.alloc, work.layer())?;
     Ok(found.as_slice() == wanted.as_slice())
 }
 
-/// The commands of the first change that is another, or nothing.
-fn wrong_change(alloc: Global, changes: &[Change]) -> Result<&'static str, Memory> {
+/// The first line whose run makes another layer, or nothing.
+fn wrong_change(alloc: Global, lines: &'static str) -> Result<&'static str, Memory> {
     let ground = ground_of(alloc, cases::CONF, cases::TEXT)?;
-    for change in changes {
-        let same = makes(&ground, change)?;
+    for line in lines.split('\n') {
+        let same = makes(&ground, line)?;
         if !same {
-            let (_, commands, _) = *change;
-            return Ok(commands);
+            return Ok(line);
         }
     }
     Ok("")

@@ -10,7 +10,7 @@ pub returns-in-MoveSpan : goal.returns-in-MoveSpan
 returns-in-MoveSpan c = rw c.in-MoveSpan.is (c.move_span.ensures c.args.conf.now c.in-MoveSpan.frags)
 
 pub returns-in-AddRelation : goal.returns-in-AddRelation
-returns-in-AddRelation c = rw c.in-AddRelation.is (c.add_relation.ensures c.in-AddRelation.first c.in-AddRelation.second)
+returns-in-AddRelation c = rw c.in-AddRelation.is c.add_relation.ensures
 
 pub returns-in-ClearAttribute : goal.returns-in-ClearAttribute
 returns-in-ClearAttribute c =
