@@ -16,6 +16,7 @@ use Rattle.ann_reader.specs.AnnFaults.{layer_of, layer_fault, first_text_fault, 
 use Rattle.ann_reader.specs.AnnFiles.{IsAnn, Spells, is_line_of}
 use Rattle.ann_reader.proofs.CleanLemmas.{later_none, unmapped}
 use Rattle.ann_reader.proofs.SaidLemmas.{lines_came, lines_classes, none_there}
+use Rattle.ann_reader.proofs.SmallLemmas.{small}
 use Rattle.ann_reader.proofs.AnnLemmas.{Holds, AllClean, all_clean, all_hold, lines_rise, Rises}
 use Rattle.ann_reader.proofs.TextLemmas.{text_shown}
 
@@ -66,6 +67,7 @@ read_file conf text bytes valid e =
       spelt = all_spell conf text (layer_of conf lines) lines good (all_hold conf lines [] lines 1 refl (rising bytes) tt each) b.1;
       once = all_once conf lines lines each;
       only = λ id h. come_in conf lines id h;
+      numbers = small conf lines;
       classes = lines_classes conf no_marks lines;
       well_formed = good;
     }

@@ -22,6 +22,7 @@ pub mod RoomLemmas
 pub mod RuleLemmas
 pub mod SaidLemmas
 pub mod SameLayer
+pub mod SmallLemmas
 pub mod StandLemmas
 pub mod StepLemmas
 pub mod TextCuts

@@ -20,26 +20,9 @@ use Rattle.ann_reader.proofs.CoverLemmas.{Covered, all_covered}
 use Rattle.ann_reader.proofs.FileLemmas.{come_in, rising}
 use Rattle.ann_reader.proofs.KeptLemmas.{AllKeep, all_keep, all_cleaned}
 use Rattle.ann_reader.proofs.SaidLemmas.{lines_classes, none_of, read_came, said_numbers}
+use Rattle.ann_reader.proofs.SmallLemmas.{small}
 use Rattle.ann_reader.proofs.UniqueLemmas.{Decides, decides, one_decided}
 
--- ---- the numbers of what lines say are those of IDs
-
-line_small : (conf : Configuration) (l : Annotations) (line : Line) (kind : Kind) (n : ℕ) → has_number (with_line conf l line) kind n ≡ true → (has_number l kind n ≡ true) ⊎ (n ≤ 999999999)
-line_small conf l line kind n h =
-    let own = own_id (form_of line.bytes) in
-    let mark = mark_said conf (form_of line.bytes) in
-    elim (read_came l own mark kind n (sym (said_numbers (with_read l own mark) (said_of conf (form_of line.bytes)) kind n) ∙ h)) as (λ _. (has_number l kind n ≡ true) ⊎ (n ≤ 999999999)) [
-      | inl t ↦ inl t
-      | inr e ↦ inr (subst (λ k. k ≤ 999999999) (sym e.3) e.0.within)
-    ]
-
-lines_small : (conf : Configuration) (l : Annotations) (lines : List Line) (kind : Kind) (n : ℕ) → has_number (fold (with_line conf) l lines) kind n ≡ true → (has_number l kind n ≡ true) ⊎ (n ≤ 999999999)
-lines_small conf l [] kind n h = inl h
-lines_small conf l (line ∷ lines) kind n h =
-    elim (lines_small conf (with_line conf l line) lines kind n h) as (λ _. (has_number l kind n ≡ true) ⊎ (n ≤ 999999999)) [ inl t ↦ line_small conf l line kind n t | inr small ↦ inr small ]
-
-small : (conf : Configuration) (lines : List Line) (kind : Kind) (n : ℕ) → has_number (layer_of conf lines) kind n ≡ true → n ≤ 999999999
-small conf lines kind n h = elim (lines_small conf no_marks lines kind n h) as (λ _. n ≤ 999999999) [ inl t ↦ absurd (none_of kind n t) | inr few ↦ few ]
 
 -- what lines say is a layer, where its classes are those of one
 pub is_layer : (conf : Configuration) (lines : List Line) → IsClassList (layer_of conf lines).classes → IsLayer (layer_of conf lines)

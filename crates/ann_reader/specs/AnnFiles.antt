@@ -1,8 +1,9 @@
 -- Which layer an .ann file is: a relation by cases on its lines (brat standoff manual).
-use Rattle.std.specs.Prelude.{◌≡◌, ℕ, Bool, true, false, List, [], length, map, chars, Some, IsSome, IsUtf8}
+use Rattle.std.specs.Prelude.{◌≡◌, ◌≤◌, ℕ, Bool, true, false, List, [], length, map, chars, Some, IsSome, IsUtf8}
 use Rattle.std.specs.Option.{option_map_or}
 use Rattle.std.specs.List.{list_any, filter_map, fold, AllByRecursion}
 use Rattle.mark_base.specs.declared.ann_id.AnnId.{AnnId}
+use Rattle.mark_base.specs.declared.ann_id.Kind.{Kind}
 use Rattle.char_documents.specs.Texts.{reference_text}
 use Rattle.annotation_conf.specs.Configurations.{Configuration}
 use Rattle.layer_model.specs.declared.class.Class.{Class}
@@ -10,7 +11,7 @@ use Rattle.layer_model.specs.declared.mark.Mark.{Mark}
 use Rattle.layer_model.specs.Annotations.{Annotations}
 use Rattle.layer_model.specs.Classes.{joined}
 use Rattle.layer_model.specs.Coherent.{is_span_letter}
-use Rattle.layer_model.specs.Layers.{has, mark_at}
+use Rattle.layer_model.specs.Layers.{has, has_number, mark_at}
 use Rattle.layer_core.specs.PairRules.{is_id}
 use Rattle.layer_core.specs.WellFormed.{IsWellFormed}
 use Rattle.ann_reader.specs.Lines.{Line, lines_of}
@@ -67,5 +68,6 @@ pub record IsAnn (conf : Configuration) (text bytes : List ℕ) (layer : Annotat
   pub spelt : AllByRecursion (λ line. Spells conf text layer (form_of line.bytes)) (lines_of bytes)
   pub once : AllByRecursion (λ line. is_twice (lines_of bytes) line ≡ false) (lines_of bytes)
   pub only : (id : AnnId) → has layer id ≡ true → list_any (is_line_of id) (lines_of bytes) ≡ true
+  pub numbers : (kind : Kind) (number : ℕ) → has_number layer kind number ≡ true → number ≤ 999999999
   pub classes : layer.classes ≡ classes_of (said_in conf (lines_of bytes))
   pub well_formed : IsWellFormed conf (length text) layer

@@ -1,4 +1,4 @@
-//! Laws of .ann files. Each function does nothing; its contract is the law.
+//! Laws of .ann files. Each function does nothing but name the laws that it rests on; its contract is the law.
 ghost use Rattle.std.specs.Prelude.{◌≡◌, ◌≤◌, ℕ, List, length, None, IsUtf8};
 ghost use Rattle.annotation_conf.specs.Configurations.{Configuration};
 ghost use Rattle.layer_model.specs.Annotations.{Annotations};

@@ -238,8 +238,8 @@ fn read_text(alloc: Global, text: &str, doc: &Doc, conf: &Conf) -> Result<Layer,
 /// Reads an .ann file, of at most 16,777,216 bytes (brat standoff manual). The fault is found in phases: bytes
 /// that are not UTF-8; the first line whose form, IDs or single rules are at fault; the least flaw of the layer
 /// that the lines say, at the line of its place; the first T line whose text is not that of its fragments.
-/// Memory may run out at any time. Cost: the bytes times the logarithm of the number of annotations; the text of
-/// the document is not passed over for each line.
+/// Memory may run out at any time. Cost: the bytes times the logarithm of the number of annotations, and for each
+/// line of a class the members of all classes before it; the text of the document is not passed over for each line.
 pub fn read_ann(alloc: Global, bytes: &[u8], doc: &Doc, conf: &Conf) -> Result<Layer, AnnFault>
     requires { length bytes.now ≤ 16777216 }
     ensures read { IfOk result (IsAnn conf.now doc.now bytes.now) }

@@ -123,7 +123,7 @@ fn a_return_in_a_text_is_a_space_and_a_tab_is_itself(rt: HostRuntime) -> Result<
 }
 
 const ENTRIES: &str =
-    "N1\tReference T1 W:a:b\tx/|4 1 0 0 1 0 0\nN1\tReference T1 W:1/|4 1 0 0 1 0 0\nN1\tReference T1 W\u{a0}x:1\tx/|6 Broken(BadText)\nN1\tReference T1 W:1\u{3000}2\tx/|6 Broken(BadText)\nN1\tReference T1 W:1\r/|6 Broken(BadText)\nN1\tReference T1 :1/|6 Broken(BadText)\nN1\tReference T1 W:/|6 Broken(BadText)\nN1\tReference T1 W1\tx/|6 BadLine\nN1\tReferences T1 W:1\tx/|6 BadLine\n#1\tAny_name-1 T1\tx/|4 1 0 0 0 1 0\n#1\tno(te) T1\tx/|4 1 0 0 0 1 0\n#1\tno*te T1\tx/|6 Broken(UnknownType)\n";
+    "N1\tReference T1 W:a:b\tx/|4 1 0 0 1 0 0\nN1\tReference T1 W:1/|4 1 0 0 1 0 0\nN1\tReference T1 W\u{a0}x:1\tx/|6 Broken(BadText)\nN1\tReference T1 W:1\u{3000}2\tx/|6 Broken(BadText)\nN1\tReference T1 W:1\r/|6 Broken(BadText)\nN1\tReference T1 :1/|6 Broken(BadText)\nN1\tReference T1 W:/|6 Broken(BadText)\nN1\tReference T1 Wiki\tx/|6 BadLine\nN1\tReferences T1 W:1\tx/|6 BadLine\n#1\tAny_name-1 T1\tx/|4 1 0 0 0 1 0\n#1\tno(te) T1\tx/|4 1 0 0 0 1 0\n#1\tno*te T1\tx/|6 Broken(UnknownType)\n";
 
 #[test]
 fn stores_entries_and_types_of_notes(rt: HostRuntime) -> Result<(), Fail> {
