@@ -23,7 +23,7 @@ use Rattle.layer_model.specs.declared.normal.Normal.{Normal}
 use Rattle.layer_model.specs.declared.note.Note.{Note}
 use Rattle.layer_model.specs.declared.class.Class.{Class}
 use Rattle.layer_model.specs.Annotations.{Annotations}
-use Rattle.layer_model.specs.Layers.{has_number}
+use Rattle.layer_model.specs.Layers.{IsLayer, has_number}
 use Rattle.layer_model.specs.Numbers.{NumbersFit}
 use Rattle.layer_core.specs.Ids.{id_at}
 use Rattle.layer_core.specs.PairRules.{is_id}
@@ -321,6 +321,15 @@ has_row conf text layer h id letter.Note same there =
 
 -- ---- the file
 
+numbers_fit : (layer : Annotations) → IsLayer layer → (kind : Kind) (number : ℕ) → has_number layer kind number ≡ true → number ≤ 999999999
+numbers_fit layer is letter.Text number h = is.spans number h
+numbers_fit layer is letter.Event number h = is.events number h
+numbers_fit layer is letter.Relation number h = is.relations number h
+numbers_fit layer is letter.Attribute number h = is.attributes number h
+numbers_fit layer is letter.Legacy number h = is.legacy number h
+numbers_fit layer is letter.Normal number h = is.normals number h
+numbers_fit layer is letter.Note number h = is.notes number h
+
 pub read_back : (conf : Configuration) (text : List ℕ) (layer : Annotations) → IsOfProgram conf text layer → IsWellFormed conf (length text) layer → IsUtf8 (ann_of conf text layer) → IsAnn conf text (ann_of conf text layer) layer
 read_back conf text layer program well valid =
     let h : IsHeld conf text layer = record { program = program; well = well } in
@@ -332,6 +341,7 @@ read_back conf text layer program well valid =
       spelt = subst (λ (ls : List Line). AllByRecursion (λ (line : Line). Spells conf text layer (form_of line.bytes)) ls) (sym lines) (rows_spell conf text layer 1 rows all);
       once = subst (λ (ls : List Line). AllByRecursion (λ line. is_twice ls line ≡ false) ls) (sym lines) (rows_once conf text layer rows all (rises conf text layer h));
       only = λ id there. ap (list_any (is_line_of id)) lines ∙ rows_have conf text layer id 1 rows all (has_row conf text layer h id id.kind refl there);
+      numbers = numbers_fit layer program.kept;
       classes = sym (ap (λ (ls : List Line). classes_of (said_in conf ls)) lines ∙ ap classes_of (rows_said conf text layer 1 rows all ∙ all_said conf text layer) ∙ classes_again layer.classes program.kept.classes.ordered);
       well_formed = well;
     }
