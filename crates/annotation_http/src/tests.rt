@@ -4,7 +4,6 @@ use annotation_conf::read_conf;
 use char_documents::Doc;
 use mark_base::{Bytes, Memory, MemoryLink};
 use std::alloc::Global;
-use std::process::Abort;
 use std::test::Fail;
 
 /// A connection: the text of the desk, what comes in, what has to go out, and how it ends.
@@ -101,89 +100,103 @@ const CASES: [Case; 12] = [
     },
 ];
 
-/// A desk on a text, for the one type `Person`.
-fn desk(alloc: Global, text: &str) -> Result<FirstDesk, Fail> {
-    desk_for(alloc, "[entities]\nPerson\n", text)
-}
-
-/// A desk on a text, for a configuration.
-fn desk_for(alloc: Global, conf: &str, text: &str) -> Result<FirstDesk, Fail> {
+/// How a connection over a link ends, with a new desk on a text for a configuration.
+fn ends(alloc: Global, conf: &str, text: &str, link: &mut MemoryLink) -> Result<Ending, Fail> {
     if conf.len() > 4_194_304 {
         return Err(Fail::from(Memory));
     }
     let conf = read_conf(alloc, conf.as_bytes())?;
-    Ok(FirstDesk::new(alloc, conf, Doc::new(alloc, text)?)?)
+    let doc = Doc::new(alloc, text)?;
+    let mut desk = FirstDesk::new(alloc, conf, doc)?;
+    Ok(serve_link(alloc, &mut desk, link))
+}
+
+const PERSON: &str = "[entities]\nPerson\n";
+
+/// Whether a connection over a link is the one of a case.
+fn is_as_told(alloc: Global, case: &Case, link: &mut MemoryLink) -> Result<bool, Fail> {
+    let output: &'static [u8] = case.output;
+    let wanted = case.ending;
+    let ending = ends(alloc, PERSON, case.text, link)?;
+    let written = link.written();
+    Ok(ending == wanted && written == output)
+}
+
+/// A link whose input comes whole, and of which these calls fail.
+fn whole(
+    alloc: Global,
+    input: &[u8],
+    read_fails: Vec<u64>,
+    write_fails: Vec<u64>,
+) -> Result<MemoryLink, Fail> {
+    let bytes = Bytes::of(alloc, input)?;
+    Ok(MemoryLink::new(alloc, bytes, read_fails, write_fails))
 }
 
 #[test]
-fn connections_by_their_bytes(rt: HostRuntime) -> Result<(), Fail> {
+fn connections_in_one_piece(rt: HostRuntime) -> Result<(), Fail> {
+    let alloc = rt.alloc();
     for case in &CASES {
-        let mut whole = MemoryLink::new(
-            rt.alloc(),
-            Bytes::of(rt.alloc(), case.input)?,
-            Vec::new(rt.alloc()),
-            Vec::new(rt.alloc()),
-        );
-        let mut first = desk(rt.alloc(), case.text)?;
-        assert_eq!(rt; serve_link(rt.alloc(), &mut first, &mut whole), case.ending);
-        assert_eq!(rt; whole.written(), case.output);
-
-        let sizes = vec![in rt.alloc(); 1usize; 400]?;
-        assert!(rt; sizes.iter().all(|size| *size > 0));
-        let mut cut = MemoryLink::cut_into(rt.alloc(), Bytes::of(rt.alloc(), case.input)?, sizes);
-        let mut second = desk(rt.alloc(), case.text)?;
-        assert_eq!(rt; serve_link(rt.alloc(), &mut second, &mut cut), case.ending);
-        assert_eq!(rt; cut.written(), case.output);
+        let mut link = whole(alloc, case.input, Vec::new(alloc), Vec::new(alloc))?;
+        assert!(rt; is_as_told(alloc, case, &mut link)?);
     }
     Ok(())
 }
 
-/// How the two messages end, and what was written, where the reads and the writes of these numbers fail.
-fn end_with_faults(
-    alloc: Global,
-    rt: &impl Abort,
-    read_fails: Vec<u64>,
-    write_fails: Vec<u64>,
-) -> Result<(Ending, usize), Fail> {
-    let mut link = MemoryLink::new(
-        alloc,
-        Bytes::of(alloc, TWO_MESSAGES)?,
-        read_fails,
-        write_fails,
-    );
-    let mut desk = desk(alloc, "Ann met Bob")?;
-    let ending = serve_link(alloc, &mut desk, &mut link);
-    assert!(rt; TWO_ANSWERS.starts_with(link.written()));
-    Ok((ending, link.written().len()))
+#[test]
+fn connections_in_pieces_of_one_byte(rt: HostRuntime) -> Result<(), Fail> {
+    let alloc = rt.alloc();
+    for case in &CASES {
+        let sizes = vec![in alloc; 1usize; 400]?;
+        assert!(rt; sizes.iter().all(|size| *size > 0));
+        let mut link = MemoryLink::cut_into(alloc, Bytes::of(alloc, case.input)?, sizes);
+        assert!(rt; is_as_told(alloc, case, &mut link)?);
+    }
+    Ok(())
 }
 
+/// Whether the two messages end so, with a front of their answers of this length, where the reads and the
+/// writes of these numbers fail.
+fn ends_with_faults(
+    alloc: Global,
+    read_fails: Vec<u64>,
+    write_fails: Vec<u64>,
+    wanted: (Ending, usize),
+) -> Result<bool, Fail> {
+    let mut link = whole(alloc, TWO_MESSAGES, read_fails, write_fails)?;
+    let ending = ends(alloc, PERSON, "Ann met Bob", &mut link)?;
+    let written = link.written();
+    Ok(ending == wanted.0 && written.len() == wanted.1 && TWO_ANSWERS.starts_with(written))
+}
+
+// Both messages come in the first read, and the second finds the end.
 #[test]
-fn each_read_and_each_write_fails_in_turn(rt: HostRuntime) -> Result<(), Fail> {
+fn each_read_fails_in_turn(rt: HostRuntime) -> Result<(), Fail> {
     let alloc = rt.alloc();
     let all = TWO_ANSWERS.len();
-    // Both messages come in the first read, and the second finds the end.
     for (number, ending, written) in [
         (1, Ending::ReadFault, 0),
         (2, Ending::ReadFault, all),
         (3, Ending::End, all),
     ] {
         let fails = vec![in alloc; number]?;
-        assert_eq!(rt;
-            end_with_faults(alloc, &rt, fails, Vec::new(alloc))?,
-            (ending, written)
-        );
+        assert!(rt; ends_with_faults(alloc, fails, Vec::new(alloc), (ending, written))?);
     }
-    // Each answer is one write.
+    Ok(())
+}
+
+// Each answer is one write.
+#[test]
+fn each_write_fails_in_turn(rt: HostRuntime) -> Result<(), Fail> {
+    let alloc = rt.alloc();
+    let all = TWO_ANSWERS.len();
     for (number, ending, written) in [
         (1, Ending::WriteFault, 0),
         (2, Ending::WriteFault, 94),
         (3, Ending::End, all),
     ] {
         let fails = vec![in alloc; number]?;
-        assert_eq!(rt;
-            end_with_faults(alloc, &rt, Vec::new(alloc), fails)?,
-            (ending, written)
-        );
+        assert!(rt; ends_with_faults(alloc, Vec::new(alloc), fails, (ending, written))?);
     }
     Ok(())
 }
@@ -235,40 +248,52 @@ fn push_answer(alloc: Global, output: &mut Vec<u8>, answer: &Answered) -> Result
     Ok(())
 }
 
-/// Whether a desk, over one connection with this input, gives these answers and no more.
-fn gives(
-    alloc: Global,
-    desk: &mut FirstDesk,
-    input: &[u8],
-    answers: &[Answered],
-) -> Result<bool, Fail> {
+/// The bytes of requests.
+fn input_of(alloc: Global, requests: &[Request]) -> Result<Vec<u8>, Fail> {
+    let mut input = Vec::new(alloc);
+    for request in requests {
+        push_request(alloc, &mut input, request)?;
+    }
+    Ok(input)
+}
+
+/// The bytes of answers.
+fn output_of(alloc: Global, answers: &[Answered]) -> Result<Vec<u8>, Fail> {
     let mut output = Vec::new(alloc);
     for answer in answers {
         push_answer(alloc, &mut output, answer)?;
     }
-    let mut link = MemoryLink::new(
-        alloc,
-        Bytes::of(alloc, input)?,
-        Vec::new(alloc),
-        Vec::new(alloc),
-    );
-    let ending = serve_link(alloc, desk, &mut link);
-    Ok(ending == Ending::End && link.written() == output.as_slice())
+    Ok(output)
 }
 
-/// Whether a desk on a text answers requests in turn so, over one connection.
+/// Whether a new desk, over one connection with this input, gives this output and no more.
+fn gives(alloc: Global, conf: &str, text: &str, input: &[u8], output: &[u8]) -> Result<bool, Fail> {
+    let mut link = whole(alloc, input, Vec::new(alloc), Vec::new(alloc))?;
+    let ending = ends(alloc, conf, text, &mut link)?;
+    Ok(ending == Ending::End && link.written() == output)
+}
+
+/// Whether a desk answers requests in turn so, over one connection, on a text for a configuration.
+fn answers_for(
+    alloc: Global,
+    conf: &str,
+    text: &str,
+    requests: &[Request],
+    answers: &[Answered],
+) -> Result<bool, Fail> {
+    let input = input_of(alloc, requests)?;
+    let output = output_of(alloc, answers)?;
+    gives(alloc, conf, text, input.as_slice(), output.as_slice())
+}
+
+/// The same for the configuration of the meeting.
 fn answers(
     alloc: Global,
     text: &str,
     requests: &[Request],
     answers: &[Answered],
 ) -> Result<bool, Fail> {
-    let mut desk = desk_for(alloc, CONF, text)?;
-    let mut input = Vec::new(alloc);
-    for request in requests {
-        push_request(alloc, &mut input, request)?;
-    }
-    gives(alloc, &mut desk, input.as_slice(), answers)
+    answers_for(alloc, CONF, text, requests, answers)
 }
 
 const UNDO: Request = ("POST", "/desk/undo", "");
@@ -466,33 +491,53 @@ fn bodies_of_no_form_are_refused(rt: HostRuntime) -> Result<(), Fail> {
     Ok(())
 }
 
-#[test]
-fn a_full_desk_takes_no_command_until_one_is_undone(rt: HostRuntime) -> Result<(), Fail> {
-    let alloc = rt.alloc();
-    let mut desk = desk_for(alloc, CONF, MET)?;
-    let note = asks(r#"{"do":"set-note","of":"T1","type":"Seen","text":""}"#);
-    let mut before = Vec::new(alloc);
-    push_request(
-        alloc,
-        &mut before,
-        &asks(r#"{"do":"add-span","type":"Person","at":"0 3"}"#),
-    )?;
-    for _ in 1..4_096 {
-        push_request(alloc, &mut before, &note)?;
-    }
-    gives(alloc, &mut desk, before.as_slice(), &[])?;
+/// A note on the first annotation, or another text for it.
+const NOTE: Request = (
+    "POST",
+    "/desk/do",
+    r#"{"do":"set-note","of":"T1","type":"Seen","text":""}"#,
+);
+
+/// A span and 4,095 notes, and what is asked of the full desk then.
+fn full_input(alloc: Global) -> Result<Vec<u8>, Fail> {
     let mut input = Vec::new(alloc);
-    for request in [note, loads("T1"), UNDO, note, REDO] {
+    let add = asks(r#"{"do":"add-span","type":"Person","at":"0 3"}"#);
+    push_request(alloc, &mut input, &add)?;
+    for _ in 1..4_096 {
+        push_request(alloc, &mut input, &NOTE)?;
+    }
+    for request in [NOTE, loads("T1"), UNDO, NOTE, REDO] {
         push_request(alloc, &mut input, &request)?;
     }
-    let told = [
+    Ok(input)
+}
+
+/// The answers to them: the file is read before the desk is found to be full.
+fn full_output(alloc: Global) -> Result<Vec<u8>, Fail> {
+    let mut output = Vec::new(alloc);
+    push_answer(alloc, &mut output, &(OK, r#"{"made":"T1"}"#))?;
+    push_answer(alloc, &mut output, &(OK, "{\"made\":\"#1\"}"))?;
+    for _ in 2..4_096 {
+        push_answer(alloc, &mut output, &(OK, r#"{"made":null}"#))?;
+    }
+    for answer in [
         (CONFLICT, r#"{"refused":"DeskFull"}"#),
         (CONTENT, r#"{"line":1,"refused":"BadLine"}"#),
         (OK, r#"{"done":4095,"undone":1}"#),
         (OK, r#"{"made":null}"#),
         (CONFLICT, r#"{"refused":"NothingToRedo"}"#),
-    ];
-    assert!(rt; gives(alloc, &mut desk, input.as_slice(), &told)?);
+    ] {
+        push_answer(alloc, &mut output, &answer)?;
+    }
+    Ok(output)
+}
+
+#[test]
+fn a_full_desk_takes_no_command_until_one_is_undone(rt: HostRuntime) -> Result<(), Fail> {
+    let alloc = rt.alloc();
+    let input = full_input(alloc)?;
+    let output = full_output(alloc)?;
+    assert!(rt; gives(alloc, CONF, MET, input.as_slice(), output.as_slice())?);
     Ok(())
 }
 
@@ -501,23 +546,18 @@ const OVERLAPS: &str =
 
 #[test]
 fn overlaps_are_judged_by_the_configuration(rt: HostRuntime) -> Result<(), Fail> {
-    let alloc = rt.alloc();
-    let mut desk = desk_for(alloc, OVERLAPS, "New York City")?;
-    let mut input = Vec::new(alloc);
-    for body in [
-        r#"{"do":"add-span","type":"Location","at":"0 8"}"#,
-        r#"{"do":"add-span","type":"Location","at":"4 13"}"#,
-        r#"{"do":"add-span","type":"Person","at":"0 8"}"#,
-        r#"{"do":"add-span","type":"Location","at":"4 8"}"#,
-    ] {
-        push_request(alloc, &mut input, &asks(body))?;
-    }
+    let requests = [
+        asks(r#"{"do":"add-span","type":"Location","at":"0 8"}"#),
+        asks(r#"{"do":"add-span","type":"Location","at":"4 13"}"#),
+        asks(r#"{"do":"add-span","type":"Person","at":"0 8"}"#),
+        asks(r#"{"do":"add-span","type":"Location","at":"4 8"}"#),
+    ];
     let told = [
         (OK, r#"{"made":"T1"}"#),
         (CONTENT, r#"{"of":"T1","refused":"OverlapRefused"}"#),
         (CONTENT, r#"{"of":"T1","refused":"OverlapRefused"}"#),
         (OK, r#"{"made":"T2"}"#),
     ];
-    assert!(rt; gives(alloc, &mut desk, input.as_slice(), &told)?);
+    assert!(rt; answers_for(rt.alloc(), OVERLAPS, "New York City", &requests, &told)?);
     Ok(())
 }
