@@ -23,7 +23,6 @@ use Rattle.ann_reader.proofs.SaidLemmas.{lines_classes, none_of, read_came, said
 use Rattle.ann_reader.proofs.SmallLemmas.{small}
 use Rattle.ann_reader.proofs.UniqueLemmas.{Decides, decides, one_decided}
 
-
 -- what lines say is a layer, where its classes are those of one
 pub is_layer : (conf : Configuration) (lines : List Line) → IsClassList (layer_of conf lines).classes → IsLayer (layer_of conf lines)
 is_layer conf lines classes = record {

@@ -188,9 +188,10 @@ event_said conf text layer h n event is =
     ∙ ap (λ e. Some (marked.Event e)) (same_event event.kind event.args (min event.trigger 999999999) event.trigger (id_at letter.Text event.trigger).within event.within (min_is event.trigger event.within)) in
     words_line conf text layer letter.Event n (body first (pair_word name trigger) words) (pair_word name trigger ++ words_behind words) form small refl
     (unbroken_words (pair_word name trigger) words whole all)
-    (event_line_read n name trigger words pairs small plain (name_colon name facts.word) whole all (pairs_read_back conf sound k [] event.args declared))
-    (has_mark conf layer form letter.Event n (marked.Event event) small refl spelt (ap (option_map marked.Event) is),
-    ap (λ o. option_map_or (λ (id : AnnId). is_span_letter id.kind) o false) (spelling_read letter.Text event.trigger event.within)) refl refl
+    (event_line_read n name trigger words pairs small plain (name_colon name facts.word) whole all (pairs_read_back conf sound k [] event.args declared)) (
+      has_mark conf layer form letter.Event n (marked.Event event) small refl spelt (ap (option_map marked.Event) is),
+      ap (λ o. option_map_or (λ (id : AnnId). is_span_letter id.kind) o false) (spelling_read letter.Text event.trigger event.within),
+    ) refl refl
 
 -- ---- R
 

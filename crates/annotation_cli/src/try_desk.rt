@@ -47,11 +47,7 @@ fn ending_of(ending: Ending) -> Result<(), Trouble>
 }
 
 /// Serves the console from a desk.
-fn serve_desk<C: Link>(
-    alloc: Global,
-    desk: &mut FirstDesk,
-    console: &mut C,
-) -> Result<(), Trouble>
+fn serve_desk<C: Link>(alloc: Global, desk: &mut FirstDesk, console: &mut C) -> Result<(), Trouble>
     ensures told { ServedDesk desk.old desk.new (C.left console.old) (C.left console.new) (C.held console.old) (C.held console.new) result }
     ensures folder { IfErr result (λ trouble. trouble ≢ Trouble.FileFailed) }
     ensures read { IfErr result (λ trouble. trouble ≡ Trouble.ReadFault → Rose (C.read_faults console.old) (C.read_faults console.new)) }
