@@ -1,4 +1,5 @@
 mod FailListLemmas
+pub mod IdLemmas
 mod NameLemmas
-mod NumberLemmas
+pub mod NumberLemmas
 mod StreamLemmas

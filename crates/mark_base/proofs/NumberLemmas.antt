@@ -1,13 +1,13 @@
 -- Decimal numbers of at most nine digits, without a leading zero.
-use Rattle.std.proofs.Common.{ℕ, ◌≤◌, ◌<◌, ◌^◌, ◌≡◌, ◌==◌, ◌&&◌, ◌||◌, Bool, true, false, not, List, Result, Option, Some, Ok, length, decimal, get_or, slice_index, nat_lt, arith, refl, sym, ◌∙◌, ap, zero, suc}
+use Rattle.std.proofs.Common.{ℕ, ◌≤◌, ◌<◌, ◌^◌, ◌≡◌, ◌==◌, ◌&&◌, ◌||◌, Bool, true, false, not, cond, List, Result, Option, Some, None, Ok, length, decimal, get_or, slice_index, nat_lt, arith, refl, sym, ◌∙◌, ap, zero, suc}
 use Rattle.std.specs.Result.{result_ok}
 use Rattle.std.specs.Str.{all_ascii_digits, IsUtf8}
 use Rattle.std.specs.Str.Parse.{digits_value, ParsesUnsigned}
 use Rattle.std.proofs.lemmas.Bool.{and_parts, and_from, ltb-true, lt-ltb, eqb-true, eq-eqb, false≢true}
 use Rattle.std.proofs.lemmas.Str.{IsUtf8-from_ascii}
 use Rattle.std.proofs.lemmas.Str.Parse.{IsNumeralModel, numerals_by_value, tells_all_ascii_digits, digits_value_short, parse_gives}
-use Rattle.std.proofs.lemmas.Fmt.{decimal-digits_value, digits_decimal, decimal_nonempty, length-decimal-le, first_decimal, decimal_digit, IsAscii-from_digits}
-use Rattle.mark_base.specs.AnnIds.{is_canonical}
+use Rattle.std.proofs.lemmas.Fmt.{decimal-digits_value, digits_value-decimal, digits_decimal, decimal_nonempty, length-decimal-le, first_decimal, decimal_digit, IsAscii-from_digits}
+use Rattle.mark_base.specs.AnnIds.{is_canonical, number_read}
 
 own : IsNumeralModel (λ ds. all_ascii_digits ds ≡ true) (digits_value 10)
 own = numerals_by_value (λ ds. all_ascii_digits ds ≡ true) tells_all_ascii_digits
@@ -87,3 +87,11 @@ not_canonical ds f n small e = false≢true (sym f ∙ ap is_canonical e ∙ dec
 pub canonical_parsed : {E : Type 0} (ds text : List ℕ) (r : Result ℕ E) (o : Option ℕ)
     → is_canonical ds ≡ true → text ≡ ds → ParsesUnsigned 32 10 text r → o ≡ result_ok r → o ≡ Some (digits_value 10 ds)
 canonical_parsed ds text r o t same p is = is ∙ ap result_ok (canonical_reads ds r t (rw same at p))
+
+-- such digits are read
+pub canonical_read : (ds : List ℕ) → is_canonical ds ≡ true → number_read ds ≡ Some (digits_value 10 ds)
+canonical_read ds t = ap (λ b. cond b (Some (digits_value 10 ds)) None) t
+
+-- the spelling of a number is read as it
+pub number_read_back : (n : ℕ) → n ≤ 999999999 → number_read (decimal n) ≡ Some n
+number_read_back n small = canonical_read (decimal n) (decimal_canonical n small) ∙ ap Some (digits_value-decimal own n (omega arith))

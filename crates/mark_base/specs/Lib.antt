@@ -1,4 +1,5 @@
 pub mod AnnIds
 pub mod FailList
 pub mod Names
+pub mod ReadIds
 pub mod Streams

@@ -4,7 +4,7 @@ ghost use Rattle.std.specs.Prelude.{◌≡◌, ◌<◌};
 use crate::{
     AnnId, Arg, ArgList, Bytes, Failed, Frag, FragList, IdList, Kind, MemoryLink, MemorySink,
     MemorySource, Name, NameFault, NamedArg, NamedArgs, Sink, Slug, SlugList, Source, Steps, Text,
-    receive, send, send_all, write_all,
+    is_canonical, number_read, receive, send, send_all, write_all,
 };
 use std::alloc::Global;
 use std::marker::Brand;
@@ -196,6 +196,32 @@ fn ids_are_read_by_their_spelling(rt: HostRuntime) -> Result<(), Fail> {
     assert!(rt; AnnId::read(b"T9") < AnnId::read(b"T10"));
     assert!(rt; AnnId::read(b"N9") < AnnId::read(b"#1"));
     assert!(rt; AnnId::read(b"M9") < AnnId::read(b"N1"));
+    Ok(())
+}
+
+#[test]
+fn numbers_have_at_most_nine_digits_and_no_leading_zero(rt: HostRuntime) -> Result<(), Fail> {
+    let cases = [
+        ("0", Some(0u32)),
+        ("7", Some(7)),
+        ("10", Some(10)),
+        ("999999999", Some(999_999_999)),
+        ("", None),
+        ("00", None),
+        ("07", None),
+        ("+7", None),
+        ("7 ", None),
+        ("1_0", None),
+        ("1000000000", None),
+    ];
+    for (digits, number) in cases {
+        assert_eq!(rt; number_read(digits.as_bytes()), number, "{digits}");
+        assert_eq!(rt;
+            is_canonical(digits.as_bytes()),
+            number.is_some(),
+            "{digits}"
+        );
+    }
     Ok(())
 }
 
