@@ -18,7 +18,8 @@ use Rattle.layer_core.specs.Rules.{where_so, Wanted, first_unwanted}
 use Rattle.ann_reader.specs.declared.ann_fault.AnnWhat.TheVariants.{BadLine, BadId, IdTwice, Broken}
 use Rattle.ann_reader.specs.Roles.{role_read}
 use Rattle.ann_reader.specs.Lines.{Line}
-use Rattle.ann_reader.specs.Words.{id_read, all_of}
+use Rattle.mark_base.specs.ReadIds.{id_read}
+use Rattle.ann_reader.specs.Words.{all_of}
 use Rattle.ann_reader.specs.NamesRead.{type_read, event_read, relation_read, attribute_read, value_read}
 use Rattle.ann_reader.specs.Forms.{Pair, Form, BadForm, TextForm, EventForm, RelationForm, AttributeForm, ClassForm, NormalForm, NoteForm, form_of}
 use Rattle.ann_reader.specs.References.{Reference, references, may_stand, of_letters, own_word, own_id, is_own_misspelt, is_misspelt}

@@ -11,9 +11,10 @@ use Rattle.mark_base.specs.declared.fragments.Frag.{Frag}
 use Rattle.annotation_conf.specs.Configurations.{Configuration}
 use Rattle.layer_model.specs.declared.mark.Mark.{Mark}
 use Rattle.layer_model.specs.Layers.{is_of_kind}
-use Rattle.layer_core.specs.Ids.{id_at}
+use Rattle.mark_base.specs.ReadIds.{id_at, id_read}
 use Rattle.ann_reader.specs.Lines.{has_tab, first_field, behind_tab, without_return, without_end}
-use Rattle.ann_reader.specs.Words.{words_of, behind_word, id_read, kind_read, number_read}
+use Rattle.mark_base.specs.AnnIds.{kind_read, number_read}
+use Rattle.ann_reader.specs.Words.{words_of, behind_word}
 use Rattle.ann_reader.specs.Forms.{Pair, Form, BadForm, TextForm, EventForm, RelationForm, AttributeForm, ClassForm, NormalForm, NoteForm, has_byte, before_byte, behind_byte, pairs_read, frags_read, text_with, text_form, event_with, event_form, relation_with, relation_by, relation_form, attribute_by, attribute_form, class_by, class_form, normal_by, normal_form, note_by, note_form, two_form, of_two, three_form, of_three, begins_two, begins_three, form_of}
 use Rattle.ann_reader.specs.FormShows.{NamesSome}
 use Rattle.ann_reader.specs.References.{own_id}

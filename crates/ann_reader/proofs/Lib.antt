@@ -4,7 +4,6 @@ pub mod ClassLemmas
 pub mod CleanLemmas
 pub mod CountLemmas
 pub mod CoverLemmas
-pub mod DigitLemmas
 pub mod FaultlessLemmas
 pub mod FileLemmas
 pub mod FormFacts

@@ -15,7 +15,8 @@ use Rattle.layer_model.specs.Layers.{has, has_number}
 use Rattle.layer_model.specs.Coherent.{IsCoherent, AllStand as AllThere, is_span_letter}
 use Rattle.layer_core.specs.Rules.{class_not_for_use}
 use Rattle.layer_core.specs.WellFormed.{IsWellFormed}
-use Rattle.ann_reader.specs.Words.{id_read, all_of}
+use Rattle.mark_base.specs.ReadIds.{id_read}
+use Rattle.ann_reader.specs.Words.{all_of}
 use Rattle.ann_reader.specs.Forms.{ClassForm}
 use Rattle.ann_reader.specs.declared.letters.Letters.TheVariants.{Spans}
 use Rattle.ann_reader.specs.References.{references, of_letters}

@@ -15,7 +15,7 @@ use Rattle.layer_model.specs.Annotations.{Annotations}
 use Rattle.layer_model.specs.Layers.{has_number}
 use Rattle.layer_model.specs.Coherent.{IsCoherent, AllStand as AllThere, LettersFitIn, named, is_span_letter, is_span_or_event_letter}
 use Rattle.ann_reader.specs.Roles.{role_read}
-use Rattle.ann_reader.specs.Words.{id_read}
+use Rattle.mark_base.specs.ReadIds.{id_read}
 use Rattle.ann_reader.specs.Forms.{Pair, Form, EventForm, RelationForm, AttributeForm, NormalForm, NoteForm}
 use Rattle.ann_reader.specs.declared.letters.Letters.TheVariants.{SpansOrEvents}
 use Rattle.ann_reader.specs.References.{references, of_letters}

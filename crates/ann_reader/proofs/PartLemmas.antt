@@ -12,7 +12,8 @@ use Rattle.layer_model.specs.declared.mark.Mark.{Mark}
 use Rattle.layer_model.specs.declared.mark.Mark.TheVariants as marked
 use Rattle.layer_core.specs.Fields.{Valued, Undeclared, Declared}
 use Rattle.ann_reader.specs.NamesRead.{type_read, event_read, relation_read, attribute_read, value_read}
-use Rattle.ann_reader.specs.Words.{id_read, all_of}
+use Rattle.mark_base.specs.ReadIds.{id_read}
+use Rattle.ann_reader.specs.Words.{all_of}
 use Rattle.ann_reader.specs.Forms.{Pair, TextForm, EventForm, RelationForm, AttributeForm, ClassForm, NormalForm, NoteForm}
 use Rattle.ann_reader.specs.Marks.{args_of, Ends, ends_of, event_by, relation_by, attribute_by, mark_of, said_of, said_by}
 use Rattle.ann_reader.proofs.CleanLemmas.{not_some, unsome}

@@ -22,12 +22,13 @@ use Rattle.layer_model.specs.declared.rule.Rule.TheVariants.{LayerFull}
 use Rattle.layer_model.specs.Annotations.{Annotations}
 use Rattle.layer_model.specs.Layers.{IsLayer, mark_at, mark_of}
 use Rattle.layer_model.specs.Numbers.{NumbersFit}
-use Rattle.layer_core.specs.Ids.{id_at, id_place}
+use Rattle.mark_base.specs.ReadIds.{id_at}
+use Rattle.layer_core.specs.Ids.{id_place}
 use Rattle.layer_core.specs.PairRules.{counted_letter, counted_with, is_id, layer_full}
 use Rattle.layer_core.specs.WellFormed.{IsWellFormed}
 use Rattle.layer_core.proofs.PlaceLemmas.{entries_found}
 use Rattle.ann_reader.specs.Lines.{Line}
-use Rattle.ann_reader.specs.Words.{kind_read}
+use Rattle.mark_base.specs.AnnIds.{kind_read}
 use Rattle.ann_reader.specs.LineFaults.{count_like, one_too_many}
 use Rattle.ann_reader.proofs.CountLemmas.{many, is_like, one_if}
 use Rattle.ann_reader.proofs.MemberLemmas.{at_index}

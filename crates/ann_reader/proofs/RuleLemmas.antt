@@ -29,7 +29,7 @@ use Rattle.layer_core.specs.SpanRules.{is_bad_text, is_bad_store, is_bad_entry}
 use Rattle.layer_core.specs.WellFormed.{IsWellFormed, Never, no_class}
 use Rattle.ann_reader.specs.Roles.{role_read}
 use Rattle.ann_reader.specs.NamesRead.{value_read}
-use Rattle.ann_reader.specs.Words.{id_read}
+use Rattle.mark_base.specs.ReadIds.{id_read}
 use Rattle.ann_reader.specs.Forms.{Pair, Form, TextForm, EventForm, RelationForm, AttributeForm, ClassForm, NormalForm, NoteForm}
 use Rattle.ann_reader.specs.References.{references, is_own_misspelt}
 use Rattle.ann_reader.specs.Marks.{arg_by, arg_of, args_of, ends_of}

@@ -1,25 +1,22 @@
 -- The layer of a file is the one that its lines say.
-use Rattle.std.proofs.Common.{◌≡◌, ℕ, ◌≤◌, ◌⊎◌, inl, inr, true, List, [], ◌∷◌, length, refl, sym, ◌∙◌, subst}
-use Rattle.std.specs.List.{fold, AllByRecursion}
-use Rattle.mark_base.specs.declared.ann_id.Kind.{Kind}
+use Rattle.std.proofs.Common.{◌≡◌, ℕ, List, [], ◌∷◌, length, refl, sym, ◌∙◌, subst}
+use Rattle.std.specs.List.{AllByRecursion}
 use Rattle.mark_base.specs.declared.ann_id.Kind.TheVariants as letter
 use Rattle.annotation_conf.specs.Configurations.{Configuration}
 use Rattle.layer_model.specs.Annotations.{Annotations, no_marks}
 use Rattle.layer_model.specs.Classes.{IsClassList}
-use Rattle.layer_model.specs.Layers.{IsLayer, has_number}
+use Rattle.layer_model.specs.Layers.{IsLayer}
 use Rattle.layer_model.specs.Coherent.{IsCoherent}
 use Rattle.layer_core.specs.WellFormed.{IsWellFormed}
 use Rattle.ann_reader.specs.Lines.{Line, lines_of}
 use Rattle.ann_reader.specs.Forms.{Form, BadForm, TextForm, EventForm, RelationForm, AttributeForm, ClassForm, NormalForm, NoteForm, form_of}
-use Rattle.ann_reader.specs.References.{own_id}
-use Rattle.ann_reader.specs.Marks.{mark_of as mark_said, said_of}
-use Rattle.ann_reader.specs.AnnFaults.{with_line, with_read, layer_of}
+use Rattle.ann_reader.specs.AnnFaults.{layer_of}
 use Rattle.ann_reader.specs.AnnFiles.{Spells, IsAnn}
 use Rattle.ann_reader.proofs.AnnLemmas.{AllClean, Holds, all_hold}
 use Rattle.ann_reader.proofs.CoverLemmas.{Covered, all_covered}
 use Rattle.ann_reader.proofs.FileLemmas.{come_in, rising}
 use Rattle.ann_reader.proofs.KeptLemmas.{AllKeep, all_keep, all_cleaned}
-use Rattle.ann_reader.proofs.SaidLemmas.{lines_classes, none_of, read_came, said_numbers}
+use Rattle.ann_reader.proofs.SaidLemmas.{lines_classes}
 use Rattle.ann_reader.proofs.SmallLemmas.{small}
 use Rattle.ann_reader.proofs.UniqueLemmas.{Decides, decides, one_decided}
 

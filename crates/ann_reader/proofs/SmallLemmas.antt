@@ -1,8 +1,7 @@
 -- The numbers of what lines say are those of IDs.
-use Rattle.std.proofs.Common.{◌≡◌, ℕ, ◌≤◌, ◌⊎◌, inl, inr, true, List, [], ◌∷◌, refl, sym, ◌∙◌, subst}
+use Rattle.std.proofs.Common.{◌≡◌, ℕ, ◌≤◌, ◌⊎◌, inl, inr, true, List, [], ◌∷◌, sym, ◌∙◌, subst}
 use Rattle.std.specs.List.{fold}
 use Rattle.mark_base.specs.declared.ann_id.Kind.{Kind}
-use Rattle.mark_base.specs.declared.ann_id.Kind.TheVariants as letter
 use Rattle.annotation_conf.specs.Configurations.{Configuration}
 use Rattle.layer_model.specs.Annotations.{Annotations, no_marks}
 use Rattle.layer_model.specs.Layers.{has_number}

@@ -10,7 +10,7 @@ use Rattle.layer_model.specs.Annotations.{Annotations}
 use Rattle.layer_model.specs.Layers.{has}
 use Rattle.layer_core.specs.Rules.{Wanted}
 use Rattle.ann_reader.specs.Lines.{Line}
-use Rattle.ann_reader.specs.Words.{id_read}
+use Rattle.mark_base.specs.ReadIds.{id_read}
 use Rattle.ann_reader.specs.References.{Reference, may_stand, has_no_letter, is_misspelt}
 use Rattle.ann_reader.specs.LineFaults.{is_headed, headed_by, first_absent, first_unfit, wanted_of}
 use Rattle.ann_reader.specs.AnnFiles.{is_line_of}

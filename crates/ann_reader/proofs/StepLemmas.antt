@@ -11,7 +11,7 @@ use Rattle.std.proofs.lemmas.List.Sums.{fold_push}
 use Rattle.mark_base.specs.declared.ann_id.AnnId.{AnnId}
 use Rattle.layer_core.specs.Ids.{id_place}
 use Rattle.ann_reader.specs.Lines.{Line, first_field}
-use Rattle.ann_reader.specs.Words.{id_read}
+use Rattle.mark_base.specs.ReadIds.{id_read}
 use Rattle.ann_reader.specs.LineFaults.{counted_byte}
 use Rattle.ann_reader.specs.Known.{FindsHeads, is_headed_at}
 use Rattle.ann_reader.specs.Counts.{CountsLines}

@@ -5,7 +5,7 @@ use Rattle.std.specs.BTreeMap.{BTreeMap, get}
 use Rattle.std.specs.Ordering.{nat_cmp}
 use Rattle.layer_core.specs.Ids.{id_place}
 use Rattle.ann_reader.specs.Lines.{Line, first_field}
-use Rattle.ann_reader.specs.Words.{id_read}
+use Rattle.mark_base.specs.ReadIds.{id_read}
 
 -- the first field of the line is the ID of this place
 abbrev pub is_headed_at : ℕ → Line → Bool

@@ -18,7 +18,8 @@ use Rattle.ann_reader.specs.declared.ann_fault.AnnWhat.TheVariants.{BadLine, Bad
 use Rattle.ann_reader.specs.Roles.{role_read}
 use Rattle.ann_reader.specs.Lines.{Line, first_field}
 use Rattle.ann_reader.specs.NamesRead.{type_read, event_read, relation_read, attribute_read, value_read}
-use Rattle.ann_reader.specs.Words.{kind_read, id_read}
+use Rattle.mark_base.specs.ReadIds.{id_read}
+use Rattle.mark_base.specs.AnnIds.{kind_read}
 use Rattle.ann_reader.specs.Forms.{Form, BadForm, TextForm, EventForm, RelationForm, AttributeForm, ClassForm, NormalForm, NoteForm, form_of}
 use Rattle.ann_reader.specs.References.{Reference, references, own_id, is_own_misspelt, has_no_letter, is_misspelt, may_stand}
 use Rattle.ann_reader.specs.Marks.{ends_of}

@@ -13,7 +13,8 @@ use Rattle.layer_model.specs.declared.mark.Mark.TheVariants.{Span, Event, Relati
 use Rattle.layer_core.specs.Fields.{Valued, Declared}
 use Rattle.ann_reader.specs.Roles.{role_read}
 use Rattle.ann_reader.specs.NamesRead.{type_read, event_read, relation_read, attribute_read, value_read}
-use Rattle.ann_reader.specs.Words.{id_read, all_of}
+use Rattle.mark_base.specs.ReadIds.{id_read}
+use Rattle.ann_reader.specs.Words.{all_of}
 use Rattle.ann_reader.specs.Forms.{Pair, Form, BadForm, TextForm, EventForm, RelationForm, AttributeForm, ClassForm, NormalForm, NoteForm}
 
 -- ---- arguments

@@ -6,7 +6,8 @@ use Rattle.mark_base.specs.declared.ann_id.Kind.{Kind}
 use Rattle.layer_model.specs.Coherent.{is_span_letter, is_span_or_event_letter, is_attributed_letter, is_noted_letter}
 use Rattle.ann_reader.specs.declared.letters.Letters.{Letters}
 use Rattle.ann_reader.specs.declared.letters.Letters.TheVariants.{Spans, SpansOrEvents, Attributed, AnyButNotes}
-use Rattle.ann_reader.specs.Words.{kind_read, id_read}
+use Rattle.mark_base.specs.ReadIds.{id_read}
+use Rattle.mark_base.specs.AnnIds.{kind_read}
 use Rattle.ann_reader.specs.Forms.{Form, BadForm, TextForm, EventForm, RelationForm, AttributeForm, ClassForm, NormalForm, NoteForm}
 
 -- the letter may stand there

@@ -1,13 +1,8 @@
--- The words of a field, and how a number, an ID and fragments are spelt.
+-- The words of a field, and how fragments are spelt.
 use Rattle.std.specs.Prelude.{ℕ, ◌-◌, ◌==◌, ◌||◌, Bool, not, List, [], ◌∷◌, length, drop, slice_index, Option, Some, None, option_map, option_and_then, filter, if◌then◌else◌}
 use Rattle.std.specs.List.{after_first, slice_split, prefix_len}
-use Rattle.std.specs.Str.Parse.{digits_value}
-use Rattle.mark_base.specs.declared.ann_id.AnnId.{AnnId}
-use Rattle.mark_base.specs.declared.ann_id.Kind.{Kind}
-use Rattle.mark_base.specs.declared.ann_id.Kind.TheVariants as letter
 use Rattle.mark_base.specs.declared.fragments.Frag.{Frag}
-use Rattle.mark_base.specs.AnnIds.{is_canonical}
-use Rattle.layer_core.specs.Ids.{id_at}
+use Rattle.mark_base.specs.AnnIds.{number_read}
 
 -- a space
 abbrev pub is_space : ℕ → Bool
@@ -28,23 +23,6 @@ words_of bytes = if is_padded bytes then [] else filter is_some_word (slice_spli
 -- what stands behind the first word and the spaces that follow it
 abbrev pub behind_word : List ℕ → List ℕ
 behind_word bytes = let rest = after_first is_space bytes in drop (prefix_len is_space rest) rest
-
--- ---- numbers and IDs
-
--- a number of one to nine digits without a leading zero
-abbrev pub number_read : List ℕ → Option ℕ
-number_read digits = if is_canonical digits then Some (digits_value 10 digits) else None
-
--- the sort of a letter
-abbrev pub kind_read : ℕ → Option Kind
-kind_read b =
-    if b == 84 then Some letter.Text else if b == 69 then Some letter.Event else if b == 82 then Some letter.Relation
-    else if b == 65 then Some letter.Attribute else if b == 77 then Some letter.Legacy else if b == 78 then Some letter.Normal
-    else if b == 35 then Some letter.Note else None
-
--- the ID that a word spells: a letter and a number
-abbrev pub id_read : List ℕ → Option AnnId
-id_read word = option_and_then (λ kind. option_map (id_at kind) (number_read (drop 1 word))) (kind_read (slice_index word 0))
 
 -- ---- fragments
 

@@ -1,34 +1,17 @@
 //! The lines of a file, with the line of each ID.
 ghost use Rattle.std.specs.Prelude.{◌≡◌, map, IfOk, option_map};
-ghost use Rattle.layer_model.specs.Classes.{rank};
 ghost use Rattle.ann_reader.specs.Lines.{first_field};
-ghost use Rattle.ann_reader.specs.Words.{id_read};
+ghost use Rattle.mark_base.specs.ReadIds.{id_read};
 ghost use Rattle.ann_reader.specs.LineFaults.{headed_by};
 ghost use Rattle.ann_reader.specs.LineShows.{seen_line};
 ghost use Rattle.ann_reader.specs.Known.{FindsHeads};
 
 use crate::line::{Line, before};
-use crate::word::id_read;
-use mark_base::{AnnId, Kind, Memory};
+use layer_model::rank;
+use mark_base::{AnnId, Memory};
 use std::alloc::Global;
 use std::collections::BTreeMap;
 use std::marker::Model;
-
-/// The place of an ID among all IDs.
-pub(crate) fn rank(id: AnnId) -> u64
-    ensures { result ≡ rank id }
-{
-    let letter: u64 = match id.kind {
-        Kind::Text => 0,
-        Kind::Event => 1,
-        Kind::Relation => 2,
-        Kind::Attribute => 3,
-        Kind::Legacy => 4,
-        Kind::Normal => 5,
-        Kind::Note => 6,
-    };
-    letter * 1_000_000_000 + u64::from(id.number)
-}
 
 /// The lines of a file in their order, and the number of the first line of each ID.
 #[derive(Drop)]
@@ -54,7 +37,7 @@ impl<'a> Model for KnownLines<'a> {
 fn head_of(line: &Line) -> Option<AnnId>
     ensures { result ≡ id_read (first_field line.now.text.now) }
 {
-    id_read(before(line.text, b'\t').as_bytes())
+    AnnId::read(before(line.text, b'\t').as_bytes())
 }
 
 /// The number of the first line of each ID.

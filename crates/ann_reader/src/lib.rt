@@ -17,7 +17,6 @@ mod references;
 mod roles;
 #[cfg(test)]
 mod tests;
-mod text_rules;
 mod texts;
 mod word;
 mod worked_rows;

@@ -27,11 +27,11 @@ use crate::references::{
     Reference, is_own_misspelt, may_stand, own_id, references, some_misspelt, some_without_letter,
 };
 use crate::roles::role_read;
-use crate::text_rules::{is_bad_entry, is_bad_store, is_bad_text};
-use crate::word::{first_byte, id_read, kind_read};
+use crate::word::first_byte;
 use annotation_conf::Conf;
+use layer_core::{is_bad_entry, is_bad_store, is_bad_text};
 use layer_model::Rule;
-use mark_base::{AttrId, Kind, Memory, Name, NameFault, TypeId};
+use mark_base::{AnnId, AttrId, Kind, Memory, Name, NameFault, TypeId};
 use std::alloc::Global;
 
 /// Whether a word is no name.
@@ -94,7 +94,7 @@ fn first_absent(known: &KnownLines, named: &[Reference]) -> Option<Rule>
     ensures { result ≡ first_absent known.now (map seen_reference named.now) }
 {
     for reference in named {
-        if let Some(id) = id_read(reference.word.as_bytes()) {
+        if let Some(id) = AnnId::read(reference.word.as_bytes()) {
             if known.head(id).is_none() {
                 return Some(Rule::NoSuch(id));
             }
@@ -108,7 +108,7 @@ fn first_unfit(named: &[Reference]) -> Option<Rule>
     ensures { result ≡ first_unfit (map seen_reference named.now) }
 {
     for reference in named {
-        if let Some(id) = id_read(reference.word.as_bytes()) {
+        if let Some(id) = AnnId::read(reference.word.as_bytes()) {
             if !may_stand(reference.letters, id.kind) {
                 return Some(Rule::WrongKind(id));
             }
@@ -204,7 +204,7 @@ fn one_too_many(before: u32, byte: u8) -> Option<Rule>
     if before < 10000 {
         return None;
     }
-    let kind = kind_read(byte)?;
+    let kind = Kind::of_letter(byte)?;
     Some(Rule::LayerFull(counted_letter(kind)))
 }
 

@@ -3,14 +3,14 @@ ghost use Rattle.std.specs.Prelude.{◌≡◌, IfOk, map, option_map, option_and
 ghost use Rattle.ann_reader.specs.NamesRead.{type_read, event_read, relation_read, attribute_read, value_read};
 ghost use Rattle.ann_reader.specs.Marks.{arg_of, args_of, is_role, ends_of, span_by, event_by, relation_by, attribute_by, normal_by, note_by, mark_of, said_by, said_of};
 ghost use Rattle.ann_reader.specs.FormShows.{seen_text, seen_pair, seen_form, seen_ends, seen_said, seen_value};
-ghost use Rattle.ann_reader.specs.Words.{all_of, id_read};
+ghost use Rattle.mark_base.specs.ReadIds.{id_read};
+ghost use Rattle.ann_reader.specs.Words.{all_of};
 
 use crate::declared_names::{
     Value, attribute_read, event_read, relation_read, type_read, value_read,
 };
 use crate::form::{Form, Pair};
 use crate::roles::role_read;
-use crate::word::id_read;
 use annotation_conf::Conf;
 use layer_model::{Attribute, Event, Mark, Normal, Note, Relation, Span};
 use mark_base::{
@@ -24,7 +24,7 @@ fn arg_of(conf: &Conf, kind: TypeId, pair: &Pair) -> Option<Arg>
     ensures { result ≡ arg_of conf.now kind (seen_pair pair.now) }
 {
     let role = role_read(conf, kind, pair.role)?;
-    let target = id_read(pair.target.as_bytes())?;
+    let target = AnnId::read(pair.target.as_bytes())?;
     Some(Arg { role, target })
 }
 
@@ -126,7 +126,7 @@ fn event_of(
     match event_read(alloc, conf, kind)? {
         Some(kind) => {
             let args = args_of(alloc, conf, kind, pairs)?;
-            Ok(event_by(kind, id_read(trigger.as_bytes()), args))
+            Ok(event_by(kind, AnnId::read(trigger.as_bytes()), args))
         }
         None => Ok(None),
     }
@@ -136,8 +136,8 @@ fn event_of(
 fn relation_by(kind: RelId, ends: &Ends) -> Option<Mark>
     ensures { result ≡ relation_by kind.n (id_read ends.now.first.now) (id_read ends.now.second.now) }
 {
-    let first = id_read(ends.first.as_bytes())?;
-    let second = id_read(ends.second.as_bytes())?;
+    let first = AnnId::read(ends.first.as_bytes())?;
+    let second = AnnId::read(ends.second.as_bytes())?;
     Some(Mark::Relation(Relation {
         kind,
         first,
@@ -192,7 +192,7 @@ fn attribute_of(
     match attribute_read(alloc, conf, kind)? {
         Some(kind) => {
             let value = value_read(alloc, conf, kind, value)?;
-            Ok(attribute_by(kind, id_read(target.as_bytes()), value))
+            Ok(attribute_by(kind, AnnId::read(target.as_bytes()), value))
         }
         None => Ok(None),
     }
@@ -208,7 +208,7 @@ fn normal_of(
 ) -> Result<Option<Mark>, Memory>
     ensures { IfOk result (λ mark. mark ≡ normal_by (id_read target.now) store.now entry.now text.now) }
 {
-    let Some(target) = id_read(target.as_bytes()) else {
+    let Some(target) = AnnId::read(target.as_bytes()) else {
         return Ok(None);
     };
     let store = Text::of(alloc, store)?;
@@ -226,7 +226,7 @@ fn normal_of(
 fn note_of(alloc: Global, kind: &str, target: &str, text: &str) -> Result<Option<Mark>, Memory>
     ensures { IfOk result (λ mark. mark ≡ note_by kind.now (id_read target.now) text.now) }
 {
-    let Some(target) = id_read(target.as_bytes()) else {
+    let Some(target) = AnnId::read(target.as_bytes()) else {
         return Ok(None);
     };
     match Name::new(alloc, kind) {
@@ -289,7 +289,7 @@ fn ids_of(alloc: Global, words: &[&str]) -> Result<Option<IdList>, Memory>
 {
     let mut ids = Vec::new(alloc);
     for word in words {
-        match id_read(word.as_bytes()) {
+        match AnnId::read(word.as_bytes()) {
             Some(id) => ids.push(id)?,
             None => return Ok(None),
         }

@@ -13,7 +13,7 @@ ghost use Rattle.ann_reader.specs.FaultShows.{seen_fault};
 ghost use Rattle.ann_reader.specs.ReadFaults.{IsFault, Tells};
 
 use crate::form::form_of;
-use crate::known_lines::{KnownLines, rank};
+use crate::known_lines::KnownLines;
 use crate::layer_lines::add_line;
 use crate::line::{Line, lines};
 use crate::line_counts::{LineCounts, count_line, count_of};
@@ -25,7 +25,7 @@ use crate::{AnnFault, AnnWhat};
 use annotation_conf::Conf;
 use char_documents::Doc;
 use layer_core::{CheckFault, check};
-use layer_model::{Class, Flaw, FlawPlace, Layer};
+use layer_model::{Class, Flaw, FlawPlace, Layer, rank};
 use mark_base::{AnnId, Memory};
 use std::alloc::Global;
 use std::collections::BTreeMap;

@@ -6,7 +6,7 @@ ghost use Rattle.ann_reader.specs.FormShows.{seen_text, seen_pair, seen_form, se
 
 use crate::form::{Form, Pair};
 use crate::letters::Letters;
-use crate::word::{first_byte, id_read, kind_read};
+use crate::word::first_byte;
 use mark_base::{AnnId, Kind, Memory};
 use std::alloc::Global;
 
@@ -116,7 +116,7 @@ fn own_word<'a>(form: &Form<'a>) -> Option<&'a str>
 pub(crate) fn own_id(form: &Form) -> Option<AnnId>
     ensures { result ≡ own_id (seen_form form.now) }
 {
-    id_read(own_word(form)?.as_bytes())
+    AnnId::read(own_word(form)?.as_bytes())
 }
 
 /// Whether a line has an ID of its own that is misspelt.
@@ -124,7 +124,7 @@ pub(crate) fn is_own_misspelt(form: &Form) -> bool
     ensures { result ≡ is_own_misspelt (seen_form form.now) }
 {
     match own_word(form) {
-        Some(word) => id_read(word.as_bytes()).is_none(),
+        Some(word) => AnnId::read(word.as_bytes()).is_none(),
         None => false,
     }
 }
@@ -133,14 +133,14 @@ pub(crate) fn is_own_misspelt(form: &Form) -> bool
 fn has_no_letter(reference: &Reference) -> bool
     ensures { result ≡ has_no_letter (seen_reference reference.now) }
 {
-    kind_read(first_byte(reference.word.as_bytes())).is_none()
+    Kind::of_letter(first_byte(reference.word.as_bytes())).is_none()
 }
 
 /// Whether a word spells no ID.
 fn is_misspelt(reference: &Reference) -> bool
     ensures { result ≡ is_misspelt (seen_reference reference.now) }
 {
-    id_read(reference.word.as_bytes()).is_none()
+    AnnId::read(reference.word.as_bytes()).is_none()
 }
 
 /// Whether some word begins with none of the letters.

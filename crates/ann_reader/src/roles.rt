@@ -1,13 +1,11 @@
 //! The roles of an event, as the words of its line name them.
 ghost use Rattle.std.specs.Prelude.{◌≡◌, ◌<◌, length, bytes_eq};
 ghost use Rattle.std.specs.List.{position_from};
-ghost use Rattle.mark_base.specs.AnnIds.{is_canonical};
-ghost use Rattle.std.specs.Str.{all_ascii_digits};
 ghost use Rattle.annotation_conf.specs.Lookups.{role_named};
 ghost use Rattle.ann_reader.specs.Roles.{role_before, role_before_number, role_read, digit_counts};
 
 use annotation_conf::Conf;
-use mark_base::TypeId;
+use mark_base::{TypeId, is_canonical};
 
 /// The role of this name.
 fn role_named(conf: &Conf, event: TypeId, name: &[u8]) -> Option<u16>
@@ -24,30 +22,6 @@ fn role_named(conf: &Conf, event: TypeId, name: &[u8]) -> Option<u16>
         }
     }
     None
-}
-
-/// Whether these are decimal digits, or nothing.
-fn all_digits(digits: &[u8]) -> bool
-    ensures { result ≡ all_ascii_digits digits.now }
-{
-    for digit in digits {
-        if !digit.is_ascii_digit() {
-            return false;
-        }
-    }
-    true
-}
-
-/// Whether these are one to nine decimal digits without a leading zero.
-pub(crate) fn is_canonical(digits: &[u8]) -> bool
-    ensures { result ≡ is_canonical digits.now }
-{
-    let count = digits.len();
-    if count == 0 || count >= 10 {
-        return false;
-    }
-    let leads = count == 1 || digits[0] != b'0';
-    all_digits(digits) && leads
 }
 
 /// The role that the front of a word names, where the so many bytes behind it are a number.

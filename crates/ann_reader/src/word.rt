@@ -1,17 +1,13 @@
-//! The words of a field, and how a number, an ID and fragments are spelt.
-ghost use Rattle.std.specs.Prelude.{◌≡◌, ◌≤◌, ◌<◌, ◌-◌, ◌==◌, true, map, length, slice_index, Some, IfOk, option_map};
+//! The words of a field, and how fragments are spelt.
+ghost use Rattle.std.specs.Prelude.{◌≡◌, ◌≤◌, ◌<◌, ◌-◌, ◌==◌, map, length, slice_index, IfOk, option_map};
 ghost use Rattle.std.specs.List.{slice_split, prefix_len};
-ghost use Rattle.std.specs.Str.Parse.{digits_value};
-ghost use Rattle.mark_base.specs.AnnIds.{is_canonical};
-ghost use Rattle.layer_core.specs.Ids.{id_at};
-ghost use Rattle.ann_reader.specs.Words.{is_space, is_padded, words_of, behind_word, number_read, kind_read, id_read, frag_of, frag_read, all_of};
+ghost use Rattle.mark_base.specs.AnnIds.{number_read};
+ghost use Rattle.ann_reader.specs.Words.{is_space, is_padded, words_of, behind_word, frag_of, frag_read, all_of};
 ghost use Rattle.ann_reader.specs.Forms.{frags_read};
 
 use crate::line::{back, behind};
-use crate::roles::is_canonical;
-use mark_base::{AnnId, Frag, Kind, Memory};
+use mark_base::{Frag, Memory, number_read};
 use std::alloc::{AllocError, Global};
-use std::str;
 
 /// Whether a space stands before the first word or behind the last.
 fn is_padded(bytes: &[u8]) -> bool
@@ -69,44 +65,6 @@ pub(crate) fn behind_word(field: &str) -> &str
     back(rest, spaces_before(rest.as_bytes()))
 }
 
-/// The value of decimal digits that are a number.
-fn digits_read(digits: &[u8]) -> Option<u32>
-    requires { is_canonical digits.now ≡ true }
-    ensures { result ≡ Some (digits_value 10 digits.now) }
-{
-    match str::from_utf8(digits) {
-        Ok(text) => text.parse::<u32>().ok(),
-        Err(_) => None,
-    }
-}
-
-/// A number of one to nine digits without a leading zero.
-pub(crate) fn number_read(digits: &[u8]) -> Option<u32>
-    ensures { result ≡ number_read digits.now }
-{
-    if is_canonical(digits) {
-        digits_read(digits)
-    } else {
-        None
-    }
-}
-
-/// The sort of a letter.
-pub(crate) fn kind_read(byte: u8) -> Option<Kind>
-    ensures { result ≡ kind_read byte }
-{
-    match byte {
-        b'T' => Some(Kind::Text),
-        b'E' => Some(Kind::Event),
-        b'R' => Some(Kind::Relation),
-        b'A' => Some(Kind::Attribute),
-        b'M' => Some(Kind::Legacy),
-        b'N' => Some(Kind::Normal),
-        b'#' => Some(Kind::Note),
-        _ => None,
-    }
-}
-
 /// The first byte, or 0 where there is none.
 pub(crate) fn first_byte(bytes: &[u8]) -> u8
     ensures { result ≡ slice_index bytes.now 0 }
@@ -114,30 +72,6 @@ pub(crate) fn first_byte(bytes: &[u8]) -> u8
     match bytes {
         [] => 0,
         [first, ..] => *first,
-    }
-}
-
-/// The ID of a letter and a number; a number above the greatest stands for the greatest.
-fn id_at(kind: Kind, number: u32) -> AnnId
-    ensures { result ≡ id_at kind number }
-{
-    AnnId {
-        kind,
-        number: number.min(AnnId::GREATEST),
-    }
-}
-
-/// The ID that a word spells: a letter and a number.
-pub(crate) fn id_read(word: &[u8]) -> Option<AnnId>
-    ensures { result ≡ id_read word.now }
-{
-    match word {
-        [] => None,
-        [letter, digits @ ..] => {
-            let kind = kind_read(*letter)?;
-            let number = number_read(digits)?;
-            Some(id_at(kind, number))
-        }
     }
 }
 

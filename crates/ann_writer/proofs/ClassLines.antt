@@ -20,7 +20,8 @@ use Rattle.layer_model.proofs.ClassOrder.{insert_class-last}
 use Rattle.layer_core.specs.Rules.{where_so, unknown_class}
 use Rattle.layer_model.specs.declared.rule.Rule.{Rule}
 use Rattle.ann_reader.specs.Lines.{is_blank, first_field}
-use Rattle.ann_reader.specs.Words.{id_read, all_of}
+use Rattle.mark_base.specs.ReadIds.{id_read}
+use Rattle.ann_reader.specs.Words.{all_of}
 use Rattle.ann_reader.specs.Forms.{Form, ClassForm, form_of}
 use Rattle.ann_reader.specs.References.{own_id}
 use Rattle.ann_reader.specs.Marks.{Said, said_by, said_of}
@@ -28,7 +29,7 @@ use Rattle.ann_reader.specs.AnnFiles.{Spells, joined_too, classes_of}
 use Rattle.ann_writer.specs.Words.{id_word}
 use Rattle.ann_writer.proofs.PlainWords.{IsPlain, name_plain}
 use Rattle.ann_writer.proofs.FieldWords.{all_read}
-use Rattle.ann_writer.proofs.NumberWords.{id_read_back, map_twice, map_same}
+use Rattle.ann_writer.proofs.FragWords.{id_read_back, map_twice, map_same}
 use Rattle.ann_writer.proofs.NameFacts.{relation_facts}
 use Rattle.ann_writer.proofs.LineForms.{body, class_line_read}
 use Rattle.ann_writer.proofs.MarkLines.{IsHeld, id_plain, unbroken_words}

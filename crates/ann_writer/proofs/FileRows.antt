@@ -18,12 +18,11 @@ use Rattle.annotation_conf.proofs.WrittenLists.{split_at}
 use Rattle.layer_model.specs.Annotations.{Annotations}
 use Rattle.layer_model.specs.Classes.{rank, letter_place}
 use Rattle.layer_model.specs.Numbers.{NumbersFit}
-use Rattle.layer_core.specs.Ids.{id_at}
+use Rattle.mark_base.specs.ReadIds.{id_at, id_read}
 use Rattle.layer_core.specs.PairRules.{is_id}
-use Rattle.layer_core.proofs.PlaceLemmas.{along}
+use Rattle.layer_core.proofs.PlaceLemmas.{along, is_less, left, right}
 use Rattle.ann_reader.specs.Lines as file
 use Rattle.ann_reader.specs.Lines.{Line, is_blank, first_field, lines_from}
-use Rattle.ann_reader.specs.Words.{id_read}
 use Rattle.ann_reader.specs.Forms.{form_of}
 use Rattle.ann_reader.specs.References.{own_id}
 use Rattle.ann_reader.specs.Marks.{Said, said_of}
@@ -185,19 +184,6 @@ base kind = letter_place kind * 1000000000
 
 rank_is : (kind : Kind) (n : ℕ) → n ≤ 999999999 → rank (id_at kind n) ≡ base kind + n
 rank_is kind n small = ap (λ m. base kind + m) (let e : min n 999999999 ≡ n = omega arith in e)
-
-left : (a b : Bool) → T (a && b) → T a
-left true b h = tt
-left false b h = h
-
-right : (a b : Bool) → T (a && b) → T b
-right true b h = h
-right false b h = absurd h
-
-is_less : (r : Ordering) → T (is_lt r) → r ≡ Less
-is_less Less h = refl
-is_less Equal h = absurd h
-is_less Greater h = absurd h
 
 above : {V : Type 0} (k : ℕ) (es : List (ℕ × V)) → T (below_all nat_cmp k es) → AllByRecursion (λ (e : ℕ × V). k + 1 ≤ e.0) es
 above k [] h = tt

@@ -3,11 +3,11 @@ pub mod ConfWords
 pub mod CountLemmas
 pub mod FieldWords
 pub mod FileRows
+pub mod FragWords
 pub mod LineForms
 pub mod MarkLines
 pub mod MarkSteps
 pub mod NameFacts
-pub mod NumberWords
 pub mod PlainWords
 pub mod RoleWords
 pub mod RoundTrip

@@ -15,7 +15,7 @@ use Rattle.ann_reader.specs.Forms.{Pair, Form, BadForm, TextForm, EventForm, Rel
 use Rattle.ann_writer.specs.Words.{frags_word, pair_word, words_behind, line_of, line_with_text}
 use Rattle.ann_writer.proofs.PlainWords.{IsPlain, parts, no_tab, no_space, longer, spelling_plain, decimal_plain}
 use Rattle.ann_writer.proofs.FieldWords.{last_words, last-append, words_read, unended, two_read, three_read, none_index, pair_read_back}
-use Rattle.ann_writer.proofs.NumberWords.{IsShort, ends, ends_plain, spaced, frags_read_back}
+use Rattle.ann_writer.proofs.FragWords.{IsShort, ends, ends_plain, spaced, frags_read_back}
 
 -- ---- lines without their line feed
 

@@ -39,7 +39,7 @@ use Rattle.layer_model.specs.Annotations.{Annotations}
 use Rattle.layer_model.specs.Coherent.{is_span_letter}
 use Rattle.layer_model.specs.Layers.{mark_of as marked_of}
 use Rattle.layer_model.specs.Numbers.{NumbersFit}
-use Rattle.layer_core.specs.Ids.{id_at}
+use Rattle.mark_base.specs.ReadIds.{id_at, id_read}
 use Rattle.layer_core.specs.Places.{by_place}
 use Rattle.layer_core.specs.Rules.{where_so, unknown_type, unknown_class, bad_fragments, unknown_value, is_bad_value}
 use Rattle.layer_core.specs.PairRules.{bad_text}
@@ -49,7 +49,6 @@ use Rattle.layer_core.specs.Targets.{is_event_type}
 use Rattle.layer_core.specs.WellFormed.{IsWellFormed, Never, no_class}
 use Rattle.layer_core.proofs.PlaceLemmas.{at_entry}
 use Rattle.ann_reader.specs.Lines.{is_blank, is_blank_byte, first_field}
-use Rattle.ann_reader.specs.Words.{id_read}
 use Rattle.ann_reader.specs.Forms.{Form, TextForm, EventForm, RelationForm, AttributeForm, NormalForm, NoteForm, form_of}
 use Rattle.ann_reader.specs.Forms as forms
 use Rattle.ann_reader.specs.References.{own_word, own_id}
@@ -61,7 +60,8 @@ use Rattle.ann_writer.specs.AnnOf.{relation_role_at, attribute_name_at, value_na
 use Rattle.ann_writer.specs.Writable.{IsOfProgram}
 use Rattle.ann_writer.proofs.WritableLemmas.{writable}
 use Rattle.ann_writer.proofs.PlainWords.{IsPlain, parts, no_tab, no_feed, name_plain, name_colon, spelling_plain, bytes_free, past_parts, decimal_plain}
-use Rattle.ann_writer.proofs.NumberWords.{IsShort, spelling_read, id_read_back, ends, ends_plain, spaced}
+use Rattle.mark_base.proofs.IdLemmas.{spelling_read}
+use Rattle.ann_writer.proofs.FragWords.{IsShort, id_read_back, ends, ends_plain, spaced}
 use Rattle.ann_writer.proofs.NameFacts.{IsTypeName, type_facts, event_known, event_facts, IsRelationName, relation_facts, IsAttributeName, attribute_facts, IsValueName, value_facts}
 use Rattle.ann_writer.proofs.RoleWords.{AreDeclared, declared_each, pair_plain, words_plain, pairs_read_back, args_read_back, written_pairs}
 use Rattle.ann_writer.proofs.ShownTexts.{ends_line, free_text, reference_bytes, reference_shown, text_kept, text_scalars, no_feed_in}

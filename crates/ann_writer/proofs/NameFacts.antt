@@ -21,7 +21,7 @@ use Rattle.ann_reader.specs.NamesRead.{by_name, type_read, where_event, event_re
 use Rattle.ann_reader.specs.Marks.{is_role}
 use Rattle.ann_writer.specs.AnnOf.{relation_role_at, attribute_name_at, value_name_at}
 use Rattle.ann_writer.specs.Words.{role_name_at}
-use Rattle.ann_writer.proofs.NumberWords.{map_same}
+use Rattle.ann_writer.proofs.FragWords.{map_same}
 use Rattle.ann_writer.proofs.ConfWords.{all_at, some_at, same_word, found_by_name, is_word, is_declared, type_read_back, type_word, relation_word, relation_read_back, attribute_word, attribute_read_back, are_roles}
 
 by_name_is : {X : Type 0} (found : List ℕ → Option X) (word : List ℕ) (x : Option X) → IsWord word → found word ≡ x → by_name found word ≡ x

@@ -21,7 +21,7 @@ use Rattle.ann_reader.specs.Marks.{arg_by, args_of}
 use Rattle.ann_writer.specs.Words.{argument_words, id_word, pair_word, reads_as, role_name_at, role_spelling}
 use Rattle.ann_writer.proofs.ConfWords.{are_roles, equal_words, is_word}
 use Rattle.ann_writer.proofs.NameFacts.{role_facts}
-use Rattle.ann_writer.proofs.NumberWords.{id_read_back}
+use Rattle.ann_writer.proofs.FragWords.{id_read_back}
 use Rattle.ann_writer.proofs.PlainWords.{IsPlain, parts, name_plain, name_colon, plain-append, spelling_plain, digits_none, digit_parts}
 use Rattle.ann_writer.proofs.FieldWords.{pair_read_back}
 

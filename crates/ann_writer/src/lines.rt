@@ -10,7 +10,7 @@ ghost use Rattle.ann_writer.specs.Writable.{HasRoles, LiesIn, NormalTexts, NoteT
 use crate::arguments::argument_words;
 use crate::words::{
     attribute_name, frags_word, id_word, pair_word, relation_name, relation_role, spelling,
-    text_of, type_name, value_name,
+    type_name, value_name,
 };
 use annotation_conf::Conf;
 use char_documents::{Doc, RefFault};
@@ -171,7 +171,7 @@ fn attribute_words(alloc: Global, conf: &Conf, attribute: &Attribute) -> Result<
     let mut words = Vec::new(alloc);
     words.push(id_word(alloc, attribute.target)?)?;
     if let Some(value) = attribute.value {
-        words.push(text_of(alloc, value_name(conf, attribute.kind, value))?)?;
+        words.push(Text::of(alloc, value_name(conf, attribute.kind, value))?)?;
     }
     Ok(words)
 }

@@ -2,7 +2,7 @@
 ghost use Rattle.std.specs.Prelude.{◌≡◌, ◌++◌, ◌+◌, ◌<◌, ◌≤◌, ◌∷◌, [], ℕ, codes, decimal, length, map, slice_index, string_bytes, IfOk, OnOk};
 ghost use Rattle.std.specs.List.{All, flat_map};
 ghost use Rattle.mark_base.specs.declared.arguments.Arg.{Arg};
-ghost use Rattle.mark_base.specs.AnnIds.{letter_of, spelling_of};
+ghost use Rattle.mark_base.specs.AnnIds.{spelling_of};
 ghost use Rattle.annotation_conf.specs.Lookups.{role_name, roles_of};
 ghost use Rattle.annotation_conf.specs.ConfText.{type_name_at, relation_name_at};
 ghost use Rattle.ann_writer.specs.AnnOf.{attribute_name_at, relation_role_at, value_name_at};
@@ -12,28 +12,6 @@ use ann_reader::role_read;
 use annotation_conf::Conf;
 use mark_base::{AnnId, AttrId, Frag, Kind, Memory, RelId, Text, TypeId};
 use std::alloc::Global;
-
-/// A text of these characters.
-pub(crate) fn text_of(alloc: Global, text: &str) -> Result<Text, Memory>
-    ensures { IfOk result (λ made. made ≡ text.now) }
-{
-    Ok(Text::from_string(String::from_str(alloc, text)?))
-}
-
-/// The letter of a sort.
-fn letter(kind: Kind) -> &'static str
-    ensures { result.now ≡ letter_of kind ∷ [] }
-{
-    match kind {
-        Kind::Text => "T",
-        Kind::Event => "E",
-        Kind::Relation => "R",
-        Kind::Attribute => "A",
-        Kind::Legacy => "M",
-        Kind::Normal => "N",
-        Kind::Note => "#",
-    }
-}
 
 /// Appends a number in decimal digits.
 fn push_number(alloc: Global, out: &mut String, number: u32) -> Result<(), Memory>
@@ -47,7 +25,7 @@ fn push_number(alloc: Global, out: &mut String, number: u32) -> Result<(), Memor
 pub(crate) fn spelling(alloc: Global, kind: Kind, number: u32) -> Result<Text, Memory>
     ensures { IfOk result (λ made. made ≡ spelling_of kind number) }
 {
-    let mut out = String::from_str(alloc, letter(kind))?;
+    let mut out = String::from_str(alloc, kind.as_str())?;
     push_number(alloc, &mut out, number)?;
     Ok(Text::from_string(out))
 }
@@ -197,5 +175,5 @@ pub(crate) fn role_spelling(
             return Ok(numbered);
         }
     }
-    text_of(alloc, name)
+    Text::of(alloc, name)
 }

@@ -1,9 +1,9 @@
 -- The places that an alternative holds, and one alternative more.
-use Rattle.std.proofs.Common.{◌≡◌, ℕ, ◌+◌, ◌-◌, ◌<◌, ◌≤◌, Bool, true, false, cond, List, [], ◌∷◌, ◌++◌, Option, Some, None, option_map, suc, length, get_or, take, map, find, nat_lt, bytes_eq, codes, is_some, refl, sym, ◌∙◌, ap, subst, arith}
+use Rattle.std.proofs.Common.{◌≡◌, ℕ, ◌+◌, ◌-◌, ◌<◌, ◌≤◌, Bool, true, false, cond, List, [], ◌∷◌, ◌++◌, Option, Some, None, option_map, suc, length, get_or, take, map, find, nat_lt, bytes_eq, codes, is_some, refl, sym, ◌∙◌, ap, arith}
 use Rattle.std.specs.List.{position_from}
 use Rattle.std.specs.Option.{option_or, option_map_or}
 use Rattle.std.proofs.lemmas.Bool.{lt-ltb, le-ltb}
-use Rattle.std.proofs.lemmas.List.{take_more, map-append, append_assoc, append-nil, length-map, get_or-map, get_or-take, length-take-le}
+use Rattle.std.proofs.lemmas.List.{take_more, map-append, append_assoc, append-nil, length-map, get_or-map, get_or-take}
 use Rattle.std.proofs.lemmas.Option.{same_Some}
 use Rattle.annotation_conf.specs.declared.build_places.Table.{Table}
 use Rattle.annotation_conf.specs.declared.faults_macros.Kinds.{Kinds}
@@ -11,15 +11,15 @@ use Rattle.annotation_conf.specs.declared.file.File.{File as FileValue}
 use Rattle.annotation_conf.specs.declared.file.MacroLine.{MacroLine as MacroLineValue}
 use Rattle.annotation_conf.specs.declared.pieces.Alternative.{Alternative as AlternativeValue}
 use Rattle.annotation_conf.specs.ConfPairs.{Alternative, Named, Held}
-use Rattle.annotation_conf.specs.ConfNames.{File, MacroLine, Holding, all_held, one_held, both_held, none_held, macro_named, built_in}
+use Rattle.annotation_conf.specs.ConfNames.{File, MacroLine, Holding, all_held, one_held, none_held, macro_named, built_in}
 use Rattle.annotation_conf.specs.ConfFaults.{Declared, names_of}
 use Rattle.annotation_conf.specs.ConfOf.{places_of}
 use Rattle.annotation_conf.specs.FileKept.{KeptMacro, kept_macro}
 use Rattle.annotation_conf.specs.FileShows.{seen_macro, seen_alternative}
 use Rattle.annotation_conf.specs.NamesKnown.{is_called, place_among}
-use Rattle.annotation_conf.specs.KnownFiles.{of_macros, held_by, IsKnown}
+use Rattle.annotation_conf.specs.KnownFiles.{of_macros, IsKnown}
 use Rattle.annotation_conf.specs.KnownMacros.{kinds_of, AreBuiltIn}
-use Rattle.annotation_conf.specs.BuildPlaces.{names_in, place_in, places_held, AreFirstPlaces, places_by, inserted}
+use Rattle.annotation_conf.specs.BuildPlaces.{names_in, places_held, AreFirstPlaces, places_by, inserted}
 use Rattle.annotation_conf.proofs.FaultMacros.{FoundAt, found_at, found_nowhere, no_macro}
 use Rattle.annotation_conf.proofs.BuildOrder.{places_join, places_of_none}
 

@@ -1,10 +1,10 @@
 -- What a file without fault lets its configuration be built by.
-use Rattle.std.proofs.Common.{◌≡◌, ℕ, ◌+◌, ◌≤◌, false, List, Ok, length, map, refl, sym, ◌∙◌, ap, subst, arith}
+use Rattle.std.proofs.Common.{◌≡◌, ℕ, List, length, map, sym, ◌∙◌, ap, arith}
 use Rattle.std.proofs.lemmas.List.{length-map}
 use Rattle.type_hierarchy.specs.declared.type_row.TypeRow.{TypeRow}
 use Rattle.annotation_conf.specs.ConfNames.{NamedLine, File}
-use Rattle.annotation_conf.specs.ConfFaults.{Declared, names_of, bound_names, of_named, firsts, stands_twice}
-use Rattle.annotation_conf.specs.ConfOf.{relation_of, conf_of, configuration_of}
+use Rattle.annotation_conf.specs.ConfFaults.{Declared, names_of, of_named, firsts, stands_twice}
+use Rattle.annotation_conf.specs.ConfOf.{relation_of, configuration_of}
 use Rattle.annotation_conf.specs.Configurations.{Role, RelationType, AttributeType, Overlap, Configuration}
 use Rattle.annotation_conf.specs.Kept.{IsKept}
 use Rattle.annotation_conf.specs.Sound.{IsSound}

@@ -1,17 +1,16 @@
 -- One type line more: the rows, and the last lines of each depth.
-use Rattle.std.proofs.Common.{◌≡◌, ◌⊎◌, ◌≢◌, ℕ, ◌+◌, ◌-◌, ◌<◌, ◌≤◌, ◌==◌, Bool, true, false, cond, List, [], ◌∷◌, ◌++◌, Option, Some, None, suc, option_map, length, get_or, take, drop, map, refl, sym, ◌∙◌, ap, subst, arith, inl, inr, add-one, drop-cons}
+use Rattle.std.proofs.Common.{◌≡◌, ℕ, ◌+◌, ◌-◌, ◌<◌, ◌==◌, Bool, true, false, cond, List, [], ◌∷◌, ◌++◌, Option, Some, None, suc, option_map, length, get_or, take, drop, map, refl, sym, ◌∙◌, ap, arith, inl, inr, add-one, drop-cons}
 use Rattle.std.specs.Option.{option_or}
 use Rattle.std.specs.BTreeMap.{BTreeMap, get, is_at}
 use Rattle.std.specs.Ordering.{nat_cmp, is_eq}
 use Rattle.std.proofs.lemmas.Bool.{ne_eqb, eq-eqb, cases_eq}
 use Rattle.std.proofs.lemmas.List.{take_more, map-append, append_assoc, length-take-le, length-map}
-use Rattle.mark_base.specs.declared.places.TypeId.{TypeId}
 use Rattle.type_hierarchy.specs.declared.type_row.TypeRow.{TypeRow}
 use Rattle.annotation_conf.specs.declared.file.TypeLine.{TypeLine as TypeLineValue}
 use Rattle.annotation_conf.specs.ConfNames.{TypeLine}
 use Rattle.annotation_conf.specs.ConfOf.{rows_from, last_at}
 use Rattle.annotation_conf.specs.BuildTold.{bare_type, FindsDepths, parent_by}
-use Rattle.annotation_conf.proofs.BuildOrder.{cmp_less, cmp_same, cmp_more, nat_apart}
+use Rattle.annotation_conf.proofs.BuildOrder.{cmp_same, nat_apart}
 
 or_more : (a b : Bool) (x y : ℕ) (o : Option ℕ) → option_or (cond a (Some x) o) (cond b (Some y) None) ≡ cond a (Some x) (option_or o (cond b (Some y) None))
 or_more true b x y o = refl

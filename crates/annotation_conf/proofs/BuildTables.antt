@@ -1,19 +1,17 @@
 -- The tables of a file by its values are those of its configuration.
-use Rattle.std.proofs.Common.{◌≡◌, ℕ, ◌+◌, ◌-◌, ◌<◌, ◌≤◌, ◌&&◌, ◌||◌, ◌==◌, Bool, true, false, not, cond, List, [], ◌∷◌, ◌++◌, Option, Some, None, Ok, option_map, suc, length, map, filter, take, bytes_eq, codes, refl, sym, ◌∙◌, ap, subst, arith}
+use Rattle.std.proofs.Common.{◌≡◌, ℕ, ◌+◌, ◌-◌, ◌≤◌, ◌&&◌, ◌||◌, ◌==◌, Bool, true, false, not, cond, List, [], ◌∷◌, ◌++◌, Option, Some, None, option_map, suc, length, map, filter, bytes_eq, codes, refl, sym, ◌∙◌, ap, subst, arith}
 use Rattle.std.specs.List.{AllByRecursion as Each, list_any, flat_map, slice_split}
 use Rattle.std.specs.Option.{option_map_or, option_or}
 use Rattle.std.proofs.lemmas.List.{map-append, append-nil, length-map, length-append}
-use Rattle.type_hierarchy.specs.declared.type_row.TypeRow.{TypeRow}
 use Rattle.annotation_conf.specs.declared.file.File.{File as FileValue}
 use Rattle.annotation_conf.specs.declared.file.TypeLine.{TypeLine as TypeLineValue}
 use Rattle.annotation_conf.specs.declared.file.NamedLine.{NamedLine as NamedLineValue}
 use Rattle.annotation_conf.specs.declared.pieces.RolePair.{RolePair as RolePairValue}
-use Rattle.annotation_conf.specs.declared.pieces.KeyedPair.{KeyedPair as KeyedPairValue}
 use Rattle.annotation_conf.specs.ConfPairs.{Alternative, Piece, Shapeless, Keyed, Pair}
-use Rattle.annotation_conf.specs.ConfNames.{TypeLine, NamedLine, File, file_of}
+use Rattle.annotation_conf.specs.ConfNames.{TypeLine, NamedLine, File}
 use Rattle.annotation_conf.specs.ConfFaults.{RolePair, pairs_of, is_values, is_attribute, is_among, word_of, keyed_value, names_of, bound_names, of_types, of_named, firsts, stood_before}
-use Rattle.annotation_conf.specs.ConfOf.{rows_from, last_at, role_of, arguments_of, role_at, relation_of, attribute_of, overlap_of, has_kind, resolved, conf_of, configuration_of}
-use Rattle.annotation_conf.specs.Configurations.{Arguments, RelationType, AttributeType, Overlap, Role, Configuration}
+use Rattle.annotation_conf.specs.ConfOf.{rows_from, last_at, role_of, arguments_of, role_at, relation_of, attribute_of, overlap_of, has_kind, resolved, configuration_of}
+use Rattle.annotation_conf.specs.Configurations.{Arguments, RelationType, Overlap}
 use Rattle.annotation_conf.specs.FileKept.{KeyedPair, KeptType, KeptNamed, kept_type, kept_named, keyed_of}
 use Rattle.annotation_conf.specs.FileShows.{seen_pair, seen_keyed, seen_alternative, seen_type, seen_named}
 use Rattle.annotation_conf.specs.FaultsTold.{mark_equivalence}
@@ -23,7 +21,7 @@ use Rattle.annotation_conf.proofs.FaultLists.{list_any_map, map_twice}
 use Rattle.annotation_conf.proofs.FaultKnown.{same_through, same_filtered}
 use Rattle.annotation_conf.proofs.FaultTold.{equivalence_is}
 use Rattle.annotation_conf.proofs.SoundFaults.{KeepsAttribute}
-use Rattle.annotation_conf.proofs.SoundRead.{IsRead, was_read, IsAttributePairs, attribute_pairs}
+use Rattle.annotation_conf.proofs.SoundRead.{was_read, IsAttributePairs, attribute_pairs}
 use Rattle.annotation_conf.proofs.SoundFiles.{KeepsAll}
 
 map_same : {X Y : Type 0} (f g : X → Y) (xs : List X) → ((x : X) → f x ≡ g x) → map f xs ≡ map g xs

@@ -1,5 +1,5 @@
 -- What a text answers by the fault that was found, and how many lines it has.
-use Rattle.std.proofs.Common.{◌≡◌, ℕ, ◌+◌, ◌<◌, ◌≤◌, ◌==◌, suc, Bool, true, false, cond, List, [], ◌∷◌, Option, Some, None, Result, Ok, Err, option_map, length, take, map, nat_lt, count_by, IsUtf8, refl, sym, ◌∙◌, ap, subst, arith}
+use Rattle.std.proofs.Common.{◌≡◌, ℕ, ◌+◌, ◌<◌, ◌≤◌, ◌==◌, suc, cond, List, [], ◌∷◌, Some, None, Ok, Err, length, take, map, nat_lt, count_by, IsUtf8, refl, sym, ◌∙◌, ap, arith}
 use Rattle.std.specs.Option.{option_or}
 use Rattle.std.specs.List.{list_any}
 use Rattle.std.specs.Str.Lines.{lines}
@@ -7,20 +7,16 @@ use Rattle.std.specs.Str.Lossy.{utf8_valid_len}
 use Rattle.std.proofs.lemmas.Str.{utf8_valid_len-IsUtf8}
 use Rattle.std.proofs.lemmas.Bool.{cond-true, cond-false, lt-ltb, le-ltb}
 use Rattle.std.proofs.lemmas.List.{length-map}
-use Rattle.annotation_conf.specs.declared.conf_fault.ConfWhat.{ConfWhat}
 use Rattle.annotation_conf.specs.declared.conf_fault.ConfWhat.TheVariants.{NotUtf8, SectionMissing}
 use Rattle.annotation_conf.specs.declared.faults.LineFault.{LineFault}
 use Rattle.annotation_conf.specs.declared.line.Line.{Line as LineValue}
-use Rattle.annotation_conf.specs.declared.file.File.{File as FileValue}
 use Rattle.annotation_conf.specs.ConfLines.{Line, Place, Before, lines_from, Entities}
 use Rattle.annotation_conf.specs.ConfFaults.{is_header}
-use Rattle.annotation_conf.specs.ConfNames.{File, file_of, file_of_lines}
-use Rattle.annotation_conf.specs.ConfOf.{Fault, first_fault, missing_fault, answer_of, conf_of, configuration_of}
-use Rattle.annotation_conf.specs.Configurations.{Configuration}
+use Rattle.annotation_conf.specs.ConfNames.{File, file_of}
+use Rattle.annotation_conf.specs.ConfOf.{missing_fault, answer_of, conf_of, configuration_of}
 use Rattle.annotation_conf.specs.FirstFaults.{soonest_fault}
 use Rattle.annotation_conf.specs.FileKept.{kept_line}
 use Rattle.annotation_conf.specs.FileShows.{seen_line}
-use Rattle.annotation_conf.specs.KnownFiles.{IsKnown}
 use Rattle.annotation_conf.specs.FaultsFirst.{seen_fault, missing_told}
 use Rattle.annotation_conf.proofs.FaultParts.{soonest_is}
 use Rattle.annotation_conf.proofs.FaultFirsts.{entities_opened}

@@ -1,5 +1,5 @@
 -- The first line of a name by its place.
-use Rattle.std.proofs.Common.{◌≡◌, ℕ, ◌+◌, ◌-◌, ◌<◌, ◌≤◌, Bool, true, false, cond, List, [], ◌∷◌, Option, Some, None, suc, length, get_or, map, find, bytes_eq, refl, sym, ◌∙◌, ap, arith}
+use Rattle.std.proofs.Common.{◌≡◌, ℕ, ◌+◌, ◌-◌, ◌<◌, ◌≤◌, Bool, true, false, cond, List, [], ◌∷◌, Some, None, suc, length, get_or, bytes_eq, refl, sym, ◌∙◌, ap, arith}
 use Rattle.std.specs.List.{position_from}
 use Rattle.std.proofs.lemmas.Option.{same_Some}
 use Rattle.std.proofs.lemmas.List.{get_or-map, length-map}
@@ -7,9 +7,9 @@ use Rattle.annotation_conf.specs.declared.file.File.{File as FileValue}
 use Rattle.annotation_conf.specs.declared.file.NamedLine.{NamedLine as NamedLineValue}
 use Rattle.annotation_conf.specs.ConfNames.{NamedLine, File}
 use Rattle.annotation_conf.specs.ConfFaults.{of_named, first_line}
-use Rattle.annotation_conf.specs.FileKept.{KeptNamed, kept_named}
+use Rattle.annotation_conf.specs.FileKept.{kept_named}
 use Rattle.annotation_conf.specs.FileShows.{seen_named}
-use Rattle.annotation_conf.specs.NamesKnown.{is_called, place_among}
+use Rattle.annotation_conf.specs.NamesKnown.{is_called}
 use Rattle.annotation_conf.specs.KnownFiles.{IsKnown}
 
 -- the first line of a name stands at its place

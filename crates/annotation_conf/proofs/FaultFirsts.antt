@@ -1,6 +1,5 @@
 -- The first fault of each list by its values is the first fault among its lines.
-use Rattle.std.proofs.Common.{◌≡◌, ℕ, ◌+◌, ◌-◌, ◌<◌, ◌≤◌, ◌||◌, ◌&&◌, Bool, true, false, not, cond, List, [], ◌∷◌, ◌++◌, Option, Some, None, suc, option_map, length, take, map, filter, nat_lt, slice_get, refl, sym, ◌∙◌, ap, subst, arith}
-use Rattle.std.specs.Bool.{⊤}
+use Rattle.std.proofs.Common.{◌≡◌, ℕ, ◌+◌, ◌-◌, ◌≤◌, ◌||◌, Bool, true, false, cond, List, [], ◌∷◌, ◌++◌, Option, Some, None, option_map, length, take, map, filter, nat_lt, slice_get, refl, sym, ◌∙◌, ap, subst, arith}
 use Rattle.std.specs.List.{list_any}
 use Rattle.std.specs.Option.{option_or}
 use Rattle.std.proofs.lemmas.Bool.{lt-ltb, le-ltb}
@@ -16,13 +15,12 @@ use Rattle.annotation_conf.specs.declared.line.Line.{Line as LineValue}
 use Rattle.annotation_conf.specs.declared.file.TypeLine.{TypeLine as TypeLineValue}
 use Rattle.annotation_conf.specs.declared.file.NamedLine.{NamedLine as NamedLineValue}
 use Rattle.annotation_conf.specs.declared.file.MacroLine.{MacroLine as MacroLineValue}
-use Rattle.annotation_conf.specs.ConfLines.{Section, Entities, Relations, Events, Attributes, Place, Before, Nowhere, Within, Kind, Skipped, Header, Macro, Content, Line}
+use Rattle.annotation_conf.specs.ConfLines.{Section, Entities, Place, Before, Nowhere, Within, Kind, Skipped, Header, Macro, Content, Line}
 use Rattle.annotation_conf.specs.ConfNames.{is_section, TypeLine, NamedLine, MacroLine, File}
 use Rattle.annotation_conf.specs.ConfFaults.{line_before, last_of, type_fault, pairs_of, is_shapeless, is_header, opened_before}
-use Rattle.annotation_conf.specs.ConfOf.{Fault}
-use Rattle.annotation_conf.specs.FirstFaults.{first_among, IsRising, bare_at, bare_fault, event_fault, macro_line_fault}
+use Rattle.annotation_conf.specs.FirstFaults.{first_among, IsRising, bare_at, bare_fault, macro_line_fault}
 use Rattle.annotation_conf.specs.FileKept.{Said, SaysNothing, NamesNone, OpensSection, StandsOutside, KeptType, KeptNamed, KeptMacro, KeptLine, kept_type, kept_named, kept_macro, kept_line, said_of}
-use Rattle.annotation_conf.specs.FileShows.{seen_pair, seen_type, seen_named, seen_macro, seen_line, seen_what, seen_section}
+use Rattle.annotation_conf.specs.FileShows.{seen_type, seen_named, seen_macro, seen_line, seen_what, seen_section}
 use Rattle.annotation_conf.specs.FaultsTold.{type_told, macro_told}
 use Rattle.annotation_conf.specs.FaultsFirst.{fault_on, first_entity_told, first_event_told, first_macro_told, is_open, open_too, open_behind, bare_told, first_bare_told, opens_entities}
 use Rattle.annotation_conf.proofs.FaultLists.{list_any_map, list_any_same}

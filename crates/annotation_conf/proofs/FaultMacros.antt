@@ -1,5 +1,5 @@
 -- What alternatives hold, one alternative more; and a macro by its place.
-use Rattle.std.proofs.Common.{◌≡◌, ℕ, ◌+◌, ◌-◌, ◌<◌, ◌≤◌, ◌||◌, ◌&&◌, Bool, true, false, not, cond, List, [], ◌∷◌, ◌++◌, Option, Some, None, zero, suc, option_map, option_and_then, length, get_or, take, drop, map, find, nat_lt, bytes_eq, refl, sym, ◌∙◌, ap, subst, arith}
+use Rattle.std.proofs.Common.{◌≡◌, ℕ, ◌+◌, ◌-◌, ◌<◌, ◌≤◌, ◌||◌, ◌&&◌, Bool, true, false, not, cond, List, [], ◌∷◌, ◌++◌, Option, Some, None, zero, suc, option_map, length, get_or, take, map, find, nat_lt, bytes_eq, refl, sym, ◌∙◌, ap, arith}
 use Rattle.std.specs.List.{list_any, position_from}
 use Rattle.std.specs.Option.{option_or, option_map_or}
 use Rattle.std.proofs.lemmas.Bool.{lt-ltb, le-ltb, ltb-true}
@@ -10,14 +10,14 @@ use Rattle.std.proofs.lemmas.Option.{same_Some}
 use Rattle.annotation_conf.specs.declared.faults_macros.Kinds.{Kinds}
 use Rattle.annotation_conf.specs.ConfPairs.{Alternative, Named, Held}
 use Rattle.annotation_conf.specs.ConfNames.{File, MacroLine, Holding, all_held, one_held, both_held, none_held, macro_named, built_in}
-use Rattle.annotation_conf.specs.ConfFaults.{Declared, is_among, names_of, bound_names, of_named, is_unknown, is_unheld}
+use Rattle.annotation_conf.specs.ConfFaults.{is_among, names_of, bound_names, of_named, is_unknown, is_unheld}
 use Rattle.annotation_conf.specs.NamesKnown.{is_called, place_among}
 use Rattle.annotation_conf.specs.declared.file.File.{File as FileValue}
 use Rattle.annotation_conf.specs.declared.file.MacroLine.{MacroLine as MacroLineValue}
 use Rattle.annotation_conf.specs.declared.pieces.Alternative.{Alternative as AlternativeValue}
 use Rattle.annotation_conf.specs.FileKept.{KeptMacro, kept_macro}
 use Rattle.annotation_conf.specs.FileShows.{seen_macro, seen_alternative}
-use Rattle.annotation_conf.specs.KnownFiles.{of_macros, held_by, IsKnown}
+use Rattle.annotation_conf.specs.KnownFiles.{of_macros, IsKnown}
 use Rattle.annotation_conf.specs.KnownMacros.{kinds_of, kinds_of_macros, kinds_by, either_kinds, no_kinds}
 
 or_false : (b : Bool) → (b || false) ≡ b

@@ -1,7 +1,6 @@
 -- The first fault of a file over its lines is the soonest of the first faults of its lists; and its lists are in order.
-use Rattle.std.proofs.Common.{◌≡◌, ◌⊎◌, ℕ, ◌+◌, ◌<◌, ◌≤◌, ◌==◌, Bool, true, false, not, cond, List, [], ◌∷◌, ◌++◌, Option, Some, None, zero, suc, option_map, option_and_then, length, take, get_or, map, filter, find, nat_lt, refl, sym, ◌∙◌, ap, subst, arith}
+use Rattle.std.proofs.Common.{◌≡◌, ℕ, ◌+◌, ◌<◌, ◌≤◌, ◌==◌, Bool, true, false, not, cond, List, [], ◌∷◌, ◌++◌, Option, Some, None, zero, suc, option_map, option_and_then, length, take, get_or, find, refl, sym, ◌∙◌, ap, subst, arith}
 use Rattle.std.specs.Option.{option_or, option_map_or}
-use Rattle.std.specs.List.{filter_map, list_any}
 use Rattle.std.specs.Str.{skip_leading_whitespace}
 use Rattle.std.specs.Str.Lines.{lines}
 use Rattle.std.proofs.lemmas.List.{append_assoc, append-nil}
@@ -10,8 +9,8 @@ use Rattle.std.proofs.lemmas.List.Folds.{find-append}
 use Rattle.annotation_conf.specs.declared.conf_fault.ConfWhat.{ConfWhat}
 use Rattle.annotation_conf.specs.ConfLines.{Section, Entities, Relations, Events, Attributes, Place, Before, Nowhere, Within, Kind, Skipped, Header, Macro, Content, Line, file_lines}
 use Rattle.annotation_conf.specs.ConfPairs.{alternatives_of}
-use Rattle.annotation_conf.specs.ConfNames.{TypeLine, NamedLine, MacroLine, File, type_line, named_line, is_overlap, content_of, section_lines, macro_at, macros_from, all_held, none_held, file_of_lines, file_of}
-use Rattle.annotation_conf.specs.ConfFaults.{type_fault, relation_fault, overlap_fault, attribute_fault, macro_fault, pairs_of, is_shapeless, fault_at, content_fault, at_number}
+use Rattle.annotation_conf.specs.ConfNames.{TypeLine, NamedLine, MacroLine, File, type_line, named_line, is_overlap, content_of, macro_at, macros_from, all_held, file_of_lines, file_of}
+use Rattle.annotation_conf.specs.ConfFaults.{type_fault, relation_fault, overlap_fault, attribute_fault, macro_fault, fault_at}
 use Rattle.annotation_conf.specs.ConfOf.{Fault, first_fault}
 use Rattle.annotation_conf.specs.FirstFaults.{first_among, sooner, soonest_fault, bare_at, bare_fault, event_fault, macro_line_fault, IsRising, IsInOrder}
 use Rattle.annotation_conf.specs.KnownFiles.{HoldInTurn}

@@ -1,5 +1,5 @@
 -- A name that stands twice, name by name.
-use Rattle.std.proofs.Common.{◌≡◌, ℕ, ◌+◌, ◌<◌, ◌≤◌, ◌||◌, Bool, true, false, List, [], ◌∷◌, ◌++◌, map, length, take, drop, get_or, bytes_eq, is_some, refl, sym, ◌∙◌, ap, arith}
+use Rattle.std.proofs.Common.{◌≡◌, ℕ, ◌+◌, ◌<◌, ◌||◌, Bool, true, false, List, [], ◌∷◌, ◌++◌, map, length, take, drop, get_or, bytes_eq, is_some, refl, sym, ◌∙◌, ap}
 use Rattle.std.specs.BTreeMap.{BTreeMap}
 use Rattle.std.proofs.lemmas.List.{take_more, map-append, append-nil, append_assoc, take-append-drop}
 use Rattle.annotation_conf.specs.declared.known_names.DeclaredName.{DeclaredName}

@@ -1,8 +1,7 @@
 -- The canonical text of a configuration.
-use Rattle.std.specs.Prelude.{ℕ, ◌+◌, ◌==◌, ◌&&◌, Bool, true, false, List, [], ◌∷◌, ◌++◌, length, nat_lt, if◌then◌else◌, map, filter, decimal, codes, replicate, slice_get, zero, suc}
+use Rattle.std.specs.Prelude.{ℕ, ◌==◌, ◌&&◌, Bool, true, false, List, [], ◌∷◌, ◌++◌, length, nat_lt, if◌then◌else◌, map, filter, decimal, codes, replicate, slice_get}
 use Rattle.std.specs.Option.{option_map_or}
 use Rattle.std.specs.List.{join_with_byte, flat_map, enumerate_from}
-use Rattle.mark_base.specs.declared.places.TypeId.{TypeId}
 use Rattle.type_hierarchy.specs.declared.type_row.TypeRow.{TypeRow}
 pub use Rattle.type_hierarchy.specs.TypeTrees.{depth_by}
 use Rattle.annotation_conf.specs.Configurations.{Alternatives, Role, Arguments, RelationType, AttributeType, Overlap, Configuration}

@@ -4,14 +4,13 @@ use Rattle.std.specs.Option.{option_map_or}
 use Rattle.std.specs.List.{list_any}
 use Rattle.annotation_conf.specs.declared.conf_fault.ConfWhat.{ConfWhat}
 use Rattle.annotation_conf.specs.declared.conf_fault.ConfWhat.TheVariants.{BadIndent, BadName, NameTwice, BadCount, BadArgument, UnknownTypeNamed, UnknownMacro, TooManyTypes}
-use Rattle.annotation_conf.specs.declared.pieces.Alternative.{Alternative as AlternativeValue}
 use Rattle.annotation_conf.specs.declared.pieces.RolePair.{RolePair as RolePairValue}
 use Rattle.annotation_conf.specs.declared.pieces.KeyedPair.{KeyedPair as KeyedPairValue}
 use Rattle.annotation_conf.specs.declared.file.TypeLine.{TypeLine as TypeLineValue}
 use Rattle.annotation_conf.specs.declared.file.NamedLine.{NamedLine as NamedLineValue}
 use Rattle.annotation_conf.specs.declared.file.MacroLine.{MacroLine as MacroLineValue}
 use Rattle.annotation_conf.specs.ConfPairs.{count_of}
-use Rattle.annotation_conf.specs.ConfNames.{MacroLine, File, macro_named}
+use Rattle.annotation_conf.specs.ConfNames.{File, macro_named}
 use Rattle.annotation_conf.specs.ConfFaults.{first_told, names_badly, values_badly, is_values, stands_twice, is_no_name, is_no_declared, word_of, is_unknown, is_unheld, names_of, bound_names, of_types, of_named, firsts, stood_before, are_past, is_binary, are_arguments, is_attribute, has_kinds, same_words, same_truth, first_line}
 use Rattle.annotation_conf.specs.FileKept.{KeyedPair, KeptNamed, kept_named}
 use Rattle.annotation_conf.specs.FileShows.{seen_alternative, seen_pair, seen_named}

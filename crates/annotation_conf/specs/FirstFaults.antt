@@ -5,7 +5,6 @@ use Rattle.std.specs.List.{list_any}
 use Rattle.annotation_conf.specs.declared.conf_fault.ConfWhat.{ConfWhat}
 use Rattle.annotation_conf.specs.declared.conf_fault.ConfWhat.TheVariants.{UnknownSection, SectionTwice, OutsideSection}
 use Rattle.annotation_conf.specs.ConfLines.{Place, Before, Nowhere, Within, Kind, Skipped, Header, Macro, Content, Line}
-use Rattle.annotation_conf.specs.ConfPairs.{Piece}
 use Rattle.annotation_conf.specs.ConfNames.{TypeLine, NamedLine, MacroLine, File}
 use Rattle.annotation_conf.specs.ConfFaults.{pairs_of, is_shapeless, type_fault, relation_fault, overlap_fault, attribute_fault, macro_fault, opened_before}
 use Rattle.annotation_conf.specs.ConfOf.{Fault}

@@ -1,6 +1,6 @@
 -- What every configuration keeps.
 use Rattle.std.specs.Prelude.{◌≡◌, ℕ, ◌≤◌, List, length, Ok}
-use Rattle.annotation_conf.specs.Configurations.{Role, RelationType, AttributeType, Configuration}
+use Rattle.annotation_conf.specs.Configurations.{AttributeType, Configuration}
 use Rattle.annotation_conf.specs.ConfOf.{conf_of}
 use Rattle.std.specs.List.{All}
 

@@ -17,22 +17,11 @@ use Rattle.layer_model.specs.declared.mark.Mark.TheVariants as marked
 use Rattle.layer_model.specs.declared.rule.Rule.{Rule}
 use Rattle.layer_model.specs.Annotations.{no_marks}
 use Rattle.layer_model.specs.Layers.{mark_of}
+use Rattle.layer_model.proofs.Coherence.{no_mark}
 use Rattle.layer_core.specs.Places.{by_place}
 use Rattle.layer_core.specs.Rules.{unknown_type, unknown_class, not_for_use, class_not_for_use, bad_fragments, out_of_text, span_too_long, named_by, first_missing, wanted_by, member, first_unwanted, unknown_role, argument_type, too_many, unknown_value}
 use Rattle.layer_core.specs.PairRules.{too_deep, same_span, same_event, same_relation, attribute_there, equiv_members, overlap_refused, bad_text, layer_full, classes_full}
 use Rattle.layer_core.specs.WellFormed.{IsWellFormed, least_flaw, no_class}
-
-unmapped : {X : Type 0} (f : X → Mark) (n : ℕ) → option_map f (finite.get (finite.empty {K = ℕ} {X = X} {R = nat_cmp}) n) ≡ None
-unmapped f n = ap (option_map f) (get-empty nat_cmp n)
-
-no_mark : (kind : Kind) (n : ℕ) → mark_of no_marks kind n ≡ None
-no_mark letter.Text n = unmapped marked.Span n
-no_mark letter.Event n = unmapped marked.Event n
-no_mark letter.Relation n = unmapped marked.Relation n
-no_mark letter.Attribute n = unmapped marked.Attribute n
-no_mark letter.Legacy n = unmapped marked.Attribute n
-no_mark letter.Normal n = unmapped marked.Normal n
-no_mark letter.Note n = unmapped marked.Note n
 
 never : (of_mark : AnnId → Mark → Option Rule) (of_class : ℕ → Class → Option Rule) (place : FlawPlace) → by_place of_mark of_class no_marks place ≡ None
 never of_mark of_class (at.Mark id) = ap (option_and_then (of_mark id)) (no_mark id.kind id.number)

@@ -2,7 +2,6 @@
 ghost use Rattle.std.specs.Prelude.{◌≡◌, ◌++◌, ◌∷◌, [], codes, decimal, string_bytes, IfOk, None, Some};
 ghost use Rattle.json.specs.Print.{quoted};
 ghost use Rattle.http.specs.StatusCode.{IsStatusCode};
-ghost use Rattle.mark_base.specs.AnnIds.{letter_of};
 ghost use Rattle.serde_json.specs.View.{view};
 ghost use Rattle.annotation_http.specs.Refusals.{fault_answer, id_text, line_members, line_refusal, named_by_rule, refusal_of, role_text, rule_answer, rule_name, rule_status};
 
@@ -10,7 +9,7 @@ use ann_reader::AnnWhat;
 use annotation_conf::Conf;
 use http_wire::{Answer, Media};
 use layer_model::{RoleAt, Rule};
-use mark_base::{AnnId, Bytes, Kind, Memory, Text};
+use mark_base::{AnnId, Bytes, Memory, Text};
 use serde_json::{Value, json};
 use std::alloc::Global;
 
@@ -49,33 +48,11 @@ pub fn rule_name(rule: Rule) -> &'static str
     }
 }
 
-/// The letter of a sort.
-fn letter(kind: Kind) -> &'static str
-    ensures { result.now ≡ letter_of kind ∷ [] }
-{
-    match kind {
-        Kind::Text => "T",
-        Kind::Event => "E",
-        Kind::Relation => "R",
-        Kind::Attribute => "A",
-        Kind::Legacy => "M",
-        Kind::Normal => "N",
-        Kind::Note => "#",
-    }
-}
-
-/// A text of these characters.
-fn text_of(alloc: Global, text: &str) -> Result<Text, Memory>
-    ensures { IfOk result (λ made. made ≡ text.now) }
-{
-    Ok(Text::from_string(String::from_str(alloc, text)?))
-}
-
 /// An ID, as it is spelt in an .ann file.
 pub(crate) fn id_text(alloc: Global, id: AnnId) -> Result<Text, Memory>
     ensures { IfOk result (λ made. made ≡ id_text id) }
 {
-    let mut out = String::from_str(alloc, letter(id.kind))?;
+    let mut out = String::from_str(alloc, id.kind.as_str())?;
     out.push_str(id.number.to_string(alloc)?.as_str())?;
     Ok(Text::from_string(out))
 }
@@ -101,7 +78,7 @@ fn role_text(conf: &Conf, role: RoleAt) -> &str
 fn event_role(alloc: Global, conf: &Conf, event: AnnId, role: RoleAt) -> Result<Text, Memory>
     ensures { IfOk result (λ made. made ≡ id_text event ++ (codes " " ++ role_text conf.now role)) }
 {
-    let mut out = String::from_str(alloc, letter(event.kind))?;
+    let mut out = String::from_str(alloc, event.kind.as_str())?;
     out.push_str(event.number.to_string(alloc)?.as_str())?;
     out.push_str(" ")?;
     out.push_str(role_text(conf, role))?;
@@ -121,8 +98,8 @@ fn named_by_rule(alloc: Global, conf: &Conf, rule: Rule) -> Result<Option<Text>,
         | Rule::AttributeThere(id)
         | Rule::OverlapRefused(id)
         | Rule::InUse(id) => id_text(alloc, id),
-        Rule::ArgumentType(role) | Rule::TooMany(role) => text_of(alloc, role_text(conf, role)),
-        Rule::LayerFull(kind) | Rule::IdsUsedUp(kind) => text_of(alloc, letter(kind)),
+        Rule::ArgumentType(role) | Rule::TooMany(role) => Text::of(alloc, role_text(conf, role)),
+        Rule::LayerFull(kind) | Rule::IdsUsedUp(kind) => Text::of(alloc, kind.as_str()),
         Rule::TooFew(event, role) => event_role(alloc, conf, event, role),
         _ => return Ok(None),
     };

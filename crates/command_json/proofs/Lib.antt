@@ -1,6 +1,4 @@
-mod IdLemmas
 mod KeyLemmas
 mod LoadLemmas
-mod NumberLemmas
 mod TextLemmas
 mod ValueLemmas

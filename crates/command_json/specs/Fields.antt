@@ -7,7 +7,8 @@ use Rattle.mark_base.specs.declared.ann_id.AnnId.{AnnId}
 use Rattle.mark_base.specs.declared.fragments.Frag.{Frag}
 use Rattle.mark_base.specs.declared.named_args.NamedArg.{NamedArg}
 use Rattle.command_json.specs.declared.spelling.StoreEntry.{StoreEntry}
-use Rattle.command_json.specs.Spellings.{of_two, id_read, frags_read, name_read, argument_read, entry_read}
+use Rattle.mark_base.specs.ReadIds.{id_read}
+use Rattle.command_json.specs.Spellings.{of_two, frags_read, name_read, argument_read, entry_read}
 
 -- ---- which fields there are
 

@@ -1,15 +1,12 @@
--- How numbers, IDs, fragments, names, arguments and entries of stores are spelt in the texts of a command.
-use Rattle.std.specs.Prelude.{ℕ, ◌==◌, Bool, List, [], ◌∷◌, map, drop, slice_index, Option, Some, None, is_none, option_map, option_and_then, if◌then◌else◌}
+-- How fragments, names, arguments and entries of stores are spelt in the texts of a command.
+use Rattle.std.specs.Prelude.{ℕ, ◌==◌, Bool, List, [], ◌∷◌, map, Option, Some, None, is_none, option_map, option_and_then, if◌then◌else◌}
 use Rattle.std.specs.List.{list_any, before_first, after_first, slice_split}
-use Rattle.std.specs.Str.Parse.{digits_value}
 use Rattle.mark_base.specs.declared.ann_id.AnnId.{AnnId}
-use Rattle.mark_base.specs.declared.ann_id.Kind.{Kind}
-use Rattle.mark_base.specs.declared.ann_id.Kind.TheVariants as letter
 use Rattle.mark_base.specs.declared.fragments.Frag.{Frag}
 use Rattle.mark_base.specs.declared.named_args.NamedArg.{NamedArg}
-use Rattle.mark_base.specs.AnnIds.{is_canonical}
+use Rattle.mark_base.specs.AnnIds.{number_read}
 use Rattle.mark_base.specs.Names.{name_fault}
-use Rattle.layer_core.specs.Ids.{id_at}
+use Rattle.mark_base.specs.ReadIds.{id_read}
 use Rattle.command_json.specs.declared.spelling.StoreEntry.{StoreEntry}
 
 -- what is made of two parts, where both are there
@@ -39,22 +36,7 @@ before_byte c text = before_first (λ b. b == c) text
 abbrev pub behind_byte : ℕ → List ℕ → List ℕ
 behind_byte c text = after_first (λ b. b == c) text
 
--- ---- numbers, IDs and fragments (brat standoff manual: "Annotation ID conventions" and "Text-bound annotations")
-
--- a number of one to nine decimal digits without a leading zero
-abbrev pub number_read : List ℕ → Option ℕ
-number_read digits = if is_canonical digits then Some (digits_value 10 digits) else None
-
--- the sort of a letter
-abbrev pub kind_read : ℕ → Option Kind
-kind_read b =
-    if b == 84 then Some letter.Text else if b == 69 then Some letter.Event else if b == 82 then Some letter.Relation
-    else if b == 65 then Some letter.Attribute else if b == 77 then Some letter.Legacy else if b == 78 then Some letter.Normal
-    else if b == 35 then Some letter.Note else None
-
--- the ID that a text spells: a letter and a number
-abbrev pub id_read : List ℕ → Option AnnId
-id_read text = of_two id_at (kind_read (slice_index text 0)) (number_read (drop 1 text))
+-- ---- fragments (brat standoff manual, "Text-bound annotations")
 
 -- the fragment of a start and an end
 abbrev pub frag_of : ℕ → ℕ → Frag

@@ -4,7 +4,7 @@ ghost use Rattle.std.specs.List.{list_all};
 ghost use Rattle.serde_json.specs.View.{view, members_view};
 ghost use Rattle.command_json.specs.Fields.{keys_of, is_listed, has_only, text_at, name_at, name_if_there, ann_id_at, frags_at, argument_at, entry_at};
 
-use crate::spelling::{StoreEntry, argument_read, entry_read, frags_read, id_read, name_read};
+use crate::spelling::{StoreEntry, argument_read, entry_read, frags_read, name_read};
 use mark_base::{AnnId, FragList, Memory, Name, NamedArg, Text};
 use serde_json::{Map, Value};
 use std::alloc::Global;
@@ -93,7 +93,7 @@ pub(crate) fn ann_id_at(body: &Value, key: &str) -> Option<AnnId>
     ensures { result ≡ ann_id_at key.now (view body.now) }
 {
     match text_at(body, key) {
-        Some(text) => id_read(text),
+        Some(text) => AnnId::read(text.as_bytes()),
         None => None,
     }
 }

@@ -2,10 +2,11 @@
 ghost use Rattle.std.specs.Prelude.{◌≡◌, IfOk, option_map, option_and_then};
 ghost use Rattle.serde_json.specs.Find.{as_str};
 ghost use Rattle.serde_json.specs.View.{view, items_view};
-ghost use Rattle.command_json.specs.Spellings.{id_read, argument_read};
+ghost use Rattle.mark_base.specs.ReadIds.{id_read};
+ghost use Rattle.command_json.specs.Spellings.{argument_read};
 ghost use Rattle.command_json.specs.Fields.{each_read, list_at, ann_ids_at, arguments_at};
 
-use crate::spelling::{argument_read, id_read};
+use crate::spelling::argument_read;
 use mark_base::{AnnId, IdList, Memory, NamedArg, NamedArgs};
 use serde_json::Value;
 use std::alloc::Global;
@@ -22,7 +23,7 @@ fn id_of(item: &Value) -> Option<AnnId>
     ensures { result ≡ option_and_then id_read (as_str (view item.now)) }
 {
     match item.as_str() {
-        Some(text) => id_read(text),
+        Some(text) => AnnId::read(text.as_bytes()),
         None => None,
     }
 }

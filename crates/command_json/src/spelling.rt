@@ -1,61 +1,19 @@
 //! How numbers, IDs, fragments, names, arguments and entries of stores are spelt in the texts of a command.
-ghost use Rattle.std.specs.Prelude.{◌≡◌, ◌==◌, map, Some, IfOk, option_map};
+ghost use Rattle.std.specs.Prelude.{◌≡◌, ◌==◌, map, IfOk, option_map};
 ghost use Rattle.std.specs.List.{slice_split};
-ghost use Rattle.std.specs.Str.{all_ascii_digits};
-ghost use Rattle.mark_base.specs.AnnIds.{is_canonical};
-ghost use Rattle.command_json.specs.Spellings.{of_two, all_of, number_read, id_read, frag_of, frag_read, frags_read, name_read, argument_of, argument_read, entry_read};
+ghost use Rattle.mark_base.specs.AnnIds.{number_read};
+ghost use Rattle.mark_base.specs.ReadIds.{id_read};
+ghost use Rattle.command_json.specs.Spellings.{of_two, all_of, frag_of, frag_read, frags_read, name_read, argument_of, argument_read, entry_read};
 
-use mark_base::{AnnId, Frag, FragList, Memory, Name, NameFault, NamedArg, Text};
+use mark_base::{AnnId, Frag, FragList, Memory, Name, NameFault, NamedArg, Text, number_read};
 use std::alloc::{AllocError, Global};
-
-/// Whether these are decimal digits, or nothing.
-fn all_digits(digits: &[u8]) -> bool
-    ensures { result ≡ all_ascii_digits digits.now }
-{
-    for digit in digits {
-        if !digit.is_ascii_digit() {
-            return false;
-        }
-    }
-    true
-}
-
-/// Whether these are one to nine decimal digits without a leading zero.
-fn is_canonical(digits: &[u8]) -> bool
-    ensures { result ≡ is_canonical digits.now }
-{
-    let count = digits.len();
-    if count == 0 || count >= 10 {
-        return false;
-    }
-    let leads = count == 1 || digits[0] != b'0';
-    all_digits(digits) && leads
-}
-
-/// The number that digits spell: one to nine of them, without a leading zero.
-fn number_read(text: &str) -> Option<u32>
-    ensures { result ≡ number_read text.now }
-{
-    if is_canonical(text.as_bytes()) {
-        text.parse::<u32>().ok()
-    } else {
-        None
-    }
-}
-
-/// The ID that a text spells.
-pub(crate) fn id_read(text: &str) -> Option<AnnId>
-    ensures { result ≡ id_read text.now }
-{
-    AnnId::read(text.as_bytes())
-}
 
 /// The fragment of a start and an end.
 fn frag_between(start: &str, end: &str) -> Option<Frag>
     ensures { result ≡ of_two frag_of (number_read start.now) (number_read end.now) }
 {
-    let start = number_read(start)?;
-    let end = number_read(end)?;
+    let start = number_read(start.as_bytes())?;
+    let end = number_read(end.as_bytes())?;
     Some(Frag { start, end })
 }
 
@@ -122,7 +80,7 @@ fn argument_of(alloc: Global, role: &str, target: &str) -> Result<Option<NamedAr
     let Some(role) = name_read(alloc, role)? else {
         return Ok(None);
     };
-    let Some(target) = id_read(target) else {
+    let Some(target) = AnnId::read(target.as_bytes()) else {
         return Ok(None);
     };
     Ok(Some(NamedArg { role, target }))

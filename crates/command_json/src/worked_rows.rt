@@ -3,7 +3,7 @@
 ghost use Rattle.std.specs.Prelude.{◌≡◌, [], ◌∷◌, codes, Some, None, refl};
 ghost use Rattle.mark_base.specs.declared.ann_id.Kind.TheVariants as letter;
 ghost use Rattle.layer_core.specs.declared.command.Command.TheVariants as ask;
-ghost use Rattle.layer_core.specs.Ids.{id_at};
+ghost use Rattle.mark_base.specs.ReadIds.{id_at};
 ghost use Rattle.command_json.specs.Bodies.{command_of};
 
 /// Commands that bodies spell, and bodies that spell none.

@@ -11,7 +11,7 @@ use Rattle.layer_model.specs.declared.flaw.FlawPlace.{FlawPlace}
 use Rattle.layer_model.specs.declared.flaw.FlawPlace.TheVariants as at
 use Rattle.layer_model.specs.Annotations.{Annotations}
 use Rattle.layer_model.specs.Layers.{IsLayer}
-use Rattle.layer_core.specs.Ids.{id_at}
+use Rattle.mark_base.specs.ReadIds.{id_at}
 use Rattle.layer_core.specs.Places.{first_place, first_rule, places}
 use Rattle.layer_core.specs.Rules.{where_so, unknown_type, unknown_class, bad_fragments, span_too_long}
 use Rattle.layer_core.specs.SpanRules.{are_fragments}

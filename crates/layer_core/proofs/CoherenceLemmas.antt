@@ -31,13 +31,15 @@ use Rattle.layer_model.specs.Layers.{IsLayer, has, mark_at, mark_of}
 use Rattle.layer_model.specs.Span.{same_fragments}
 use Rattle.layer_model.specs.Coherent as whole
 use Rattle.layer_model.specs.Coherent.{begins_chain as chain_of}
-use Rattle.layer_core.specs.Ids.{id_at, ids_of}
+use Rattle.mark_base.specs.ReadIds.{id_at}
+use Rattle.layer_core.specs.Ids.{ids_of}
 use Rattle.layer_core.specs.Places.{by_place, first_place}
 use Rattle.layer_core.specs.Targets.{is_argument, is_attribute_target, is_member, is_normal_target, is_note_target}
 use Rattle.layer_core.specs.Rules.{where_so, named_by, first_missing, Wanted, argument, member, first_unwanted, wanted_by}
 use Rattle.layer_core.specs.PairRules.{begins_chain, is_arg, is_event_id, letter_is_event, lower_pair, same_attributes, same_bag, same_events, same_relations, same_spans, attribute_there, too_deep}
 use Rattle.layer_core.specs.WellFormed.{IsWellFormed, Never}
-use Rattle.layer_core.proofs.LawLemmas.{id_at-id, never}
+use Rattle.mark_base.proofs.IdLemmas.{id_at-id}
+use Rattle.layer_core.proofs.LawLemmas.{never}
 
 no_some : {X : Type 0} {x : X} → None ≡ Some x → ⊥
 no_some e = cc

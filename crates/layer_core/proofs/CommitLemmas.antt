@@ -14,7 +14,7 @@ use Rattle.layer_model.specs.declared.rule.Rule.TheVariants.{TooFew}
 use Rattle.layer_model.specs.declared.rule.RoleAt.TheVariants as role
 use Rattle.layer_model.specs.Annotations.{Annotations}
 use Rattle.layer_model.proofs.Maps.{same_list}
-use Rattle.layer_core.specs.Ids.{id_at}
+use Rattle.mark_base.specs.ReadIds.{id_at}
 use Rattle.layer_core.specs.WellFormed.{commit_fault, first_told, too_few, too_few_of}
 use Rattle.layer_core.proofs.PlaceLemmas.{entries_found}
 

@@ -1,11 +1,10 @@
 -- Loops over entries, numbers that are free, and marks that are put in the place of others.
-use Rattle.std.proofs.Common.{◌≡◌, ℕ, ◌<◌, ◌≤◌, ◌==◌, ◌||◌, ◌&&◌, min, Bool, true, false, cond, T, List, [], ◌∷◌, Some, None, is_some, unwrap_or, refl, sym, ◌∙◌, ap, arith, tests}
+use Rattle.std.proofs.Common.{◌≡◌, ℕ, ◌<◌, ◌≤◌, ◌==◌, ◌||◌, min, Bool, true, false, cond, T, List, [], ◌∷◌, Some, None, is_some, unwrap_or, refl, sym, ◌∙◌, ap, arith, tests}
 use Rattle.std.specs.List.{list_any, AllByRecursion}
 use Rattle.std.specs.List.Sorted.{IsStrictlySortedBy}
 use Rattle.std.specs.Map.{keys_of}
-use Rattle.std.specs.Ordering.{nat_cmp, eq_by_cmp, is_eq, is_lt}
-use Rattle.std.specs.declared.cmp.Ordering.{Ordering}
-use Rattle.std.specs.declared.cmp.Ordering.TheVariants.{Less, Equal, Greater}
+use Rattle.std.specs.Ordering.{nat_cmp, eq_by_cmp, is_eq}
+use Rattle.std.specs.declared.cmp.Ordering.TheVariants.{Less}
 use Rattle.std.specs.Cmp.{nat_cmp_total, tied_itself}
 use Rattle.std.specs.FinMap as finite
 use Rattle.std.specs.FinMap.{get-insert, get-remove, same_map, nat_cmp-IsAntisymmetric, contains_key-keys, from_entries, entries_sorted, len-entries}
@@ -23,6 +22,7 @@ use Rattle.layer_model.specs.Numbers.{NumbersFit, greatest_of}
 use Rattle.layer_model.specs.Layers.{IsLayer, count, greatest, has_number, is_of_kind, with_marked, without_number}
 use Rattle.layer_model.proofs.Maps.{same_list}
 use Rattle.layer_model.proofs.Numbers.{few}
+use Rattle.layer_core.proofs.PlaceLemmas.{is_less, left, right}
 
 -- ---- some entry passes a test
 
@@ -89,27 +89,14 @@ replaced l kind n mark fits = absurd (let e : false ≡ true = fits in cc)
 
 -- ---- how many annotations there are, and the greatest of their numbers
 
-first_of : (a b : Bool) → T (a && b) → T a
-first_of true b h = tt
-first_of false b h = h
-
-second_of : (a b : Bool) → T (a && b) → T b
-second_of true b h = h
-second_of false b h = absurd h
-
-less_ : (r : Ordering) → T (is_lt r) → r ≡ Less
-less_ Less h = refl
-less_ Equal h = absurd h
-less_ Greater h = absurd h
-
 above_each : {X : Type 0} (k : ℕ) (es : List (ℕ × X)) → T (below_all nat_cmp k es) → AllByRecursion (λ q. nat_cmp k q ≡ Less) (keys_of es)
 above_each k [] h = tt
-above_each k (e ∷ es) h = (less_ (nat_cmp k e.0) (first_of _ _ h), above_each k es (second_of _ _ h))
+above_each k (e ∷ es) h = (is_less (nat_cmp k e.0) (left _ _ h), above_each k es (right _ _ h))
 
 rising : {X : Type 0} (es : List (ℕ × X)) → T (is_sorted nat_cmp es) → IsStrictlySortedBy nat_cmp (keys_of es)
 unfolding IsStrictlySortedBy
 rising [] h = tt
-rising (e ∷ es) h = (above_each e.0 es (first_of _ _ h), rising es (second_of _ _ h))
+rising (e ∷ es) h = (above_each e.0 es (left _ _ h), rising es (right _ _ h))
 
 few_in : {X : Type 0} (m : finite.FinMap nat_cmp X) → NumbersFit m → finite.len m ≤ 1000000000
 few_in {X} m fits =

@@ -11,12 +11,14 @@ use Rattle.layer_model.specs.declared.mark.Mark.{Mark}
 use Rattle.layer_model.specs.Annotations.{Annotations}
 use Rattle.layer_model.specs.Classes.{letter_place}
 use Rattle.layer_model.specs.Layers.{mark_at, numbers}
-use Rattle.layer_core.specs.Ids.{id_at, id_place, ids_of, ids_of_letter, letters}
+use Rattle.mark_base.specs.ReadIds.{id_at}
+use Rattle.layer_core.specs.Ids.{id_place, ids_of, ids_of_letter, letters}
 use Rattle.layer_core.specs.Rules.{named_by}
 use Rattle.layer_core.specs.PairRules.{is_id}
 use Rattle.layer_core.specs.Drafts.{falls, falls_by}
 use Rattle.layer_core.specs.Falls.{falls_next, same_ids}
-use Rattle.layer_core.proofs.LawLemmas.{either, id_at-id, same_number, stands}
+use Rattle.mark_base.proofs.IdLemmas.{id_at-id}
+use Rattle.layer_core.proofs.LawLemmas.{either, same_number, stands}
 
 -- ---- two IDs at one place are one
 

@@ -18,7 +18,8 @@ use Rattle.layer_model.specs.declared.flaw.FlawPlace.TheVariants as at
 use Rattle.layer_model.specs.Annotations.{Annotations}
 use Rattle.layer_model.specs.Layers.{IsLayer, mark_of, numbers}
 use Rattle.layer_model.specs.Numbers.{NumbersFit}
-use Rattle.layer_core.specs.Ids.{id_at, id_place, ids_of_letter}
+use Rattle.mark_base.specs.ReadIds.{id_at}
+use Rattle.layer_core.specs.Ids.{id_place, ids_of_letter}
 use Rattle.layer_core.specs.Places.{first_place, places}
 use Rattle.layer_core.specs.Rules.{where_so}
 use Rattle.layer_core.specs.PairRules.{is_id, counted_letter, counted_with, layer_full, classes_full}

@@ -1,5 +1,5 @@
 -- A layer has no least flaw exactly where no place breaks a rule.
-use Rattle.std.proofs.Common.{◌≡◌, ℕ, ◌+◌, ◌<◌, ◌≤◌, ◌⊎◌, inl, inr, min, zero, suc, Bool, true, false, ◌||◌, List, [], ◌∷◌, ◌++◌, map, length, slice_get, refl, sym, ◌∙◌, ap, subst, Option, Some, None, arith}
+use Rattle.std.proofs.Common.{◌≡◌, ℕ, ◌+◌, ◌<◌, ◌≤◌, ◌⊎◌, inl, inr, zero, suc, Bool, true, false, ◌||◌, List, [], ◌∷◌, ◌++◌, map, length, slice_get, refl, sym, ◌∙◌, ap, subst, Option, Some, None, arith}
 use Rattle.std.specs.Option.{option_or, option_map, option_and_then, is_some}
 use Rattle.std.specs.List.{AllByRecursion, list_any, range_with_len}
 use Rattle.std.specs.Ordering.{nat_cmp, eq_by_cmp, is_eq}
@@ -7,7 +7,6 @@ use Rattle.std.specs.Cmp.{ranked}
 use Rattle.std.specs.declared.cmp.Ordering.TheVariants.{Less, Equal, Greater}
 use Rattle.std.specs.FinMap as finite
 use Rattle.std.specs.FinMap.{contains_key-keys}
-use Rattle.std.proofs.Math.Bridge.{le_prop}
 use Rattle.mark_base.specs.declared.ann_id.AnnId.{AnnId}
 use Rattle.mark_base.specs.declared.ann_id.Kind.{Kind}
 use Rattle.mark_base.specs.declared.ann_id.Kind.TheVariants as letter
@@ -20,7 +19,8 @@ use Rattle.layer_model.specs.declared.flaw.FlawPlace.{FlawPlace}
 use Rattle.layer_model.specs.declared.flaw.FlawPlace.TheVariants as at
 use Rattle.layer_model.specs.Annotations.{Annotations}
 use Rattle.layer_model.specs.Layers.{mark_at, mark_of, numbers}
-use Rattle.layer_core.specs.Ids.{id_at}
+use Rattle.mark_base.specs.ReadIds.{id_at}
+use Rattle.mark_base.proofs.IdLemmas.{id_at-id}
 use Rattle.layer_core.specs.Places.{by_place, first_place, first_rule, places}
 use Rattle.layer_core.specs.Rules.{unknown_type, unknown_class, not_for_use, class_not_for_use, bad_fragments, out_of_text, span_too_long, named_by, first_missing, wanted_by, member, first_unwanted, unknown_role, argument_type, too_many, unknown_value}
 use Rattle.layer_core.specs.PairRules.{too_deep, same_span, same_event, same_relation, attribute_there, equiv_members, overlap_refused, bad_text, layer_full, classes_full}
@@ -33,21 +33,6 @@ none_some e = cc
 
 some_none : {X : Type 0} {x : X} → None ≡ Some x → ⊥
 some_none e = cc
-
--- ---- IDs
-
-same_id : (kind : Kind) (m n : ℕ) (p : m ≤ 999999999) (q : n ≤ 999999999) → m ≡ n
-    → ◌≡◌ {A = AnnId} (record { kind = kind; number = m; within = p }) (record { kind = kind; number = n; within = q })
-same_id kind m n p q e =
-    let P : ℕ → Type 0 = λ x. (r : x ≤ 999999999) → ◌≡◌ {A = AnnId} (record { kind = kind; number = m; within = p }) (record { kind = kind; number = x; within = r }) in
-    (subst P e (λ r. ap (λ (w : m ≤ 999999999). record { kind = kind; number = m; within = w }) (le_prop p r))) q
-
--- an ID is the one of its letter and number
-pub id_at-id : (id : AnnId) → id_at id.kind id.number ≡ id
-id_at-id id =
-    let small : id.number ≤ 999999999 = id.within in
-    let same : min id.number 999999999 ≡ id.number = omega arith in
-    same_id id.kind (min id.number 999999999) id.number (id_at id.kind id.number).within id.within same
 
 -- ---- places that break nothing
 

@@ -33,7 +33,8 @@ use Rattle.layer_model.specs.declared.flaw.Flaw.{Flaw}
 use Rattle.layer_model.specs.declared.flaw.FlawPlace.TheVariants as at
 use Rattle.layer_model.specs.Annotations.{Annotations}
 use Rattle.layer_model.specs.Layers.{IsLayer}
-use Rattle.layer_core.specs.Ids.{id_at, ids_of}
+use Rattle.mark_base.specs.ReadIds.{id_at}
+use Rattle.layer_core.specs.Ids.{ids_of}
 use Rattle.layer_core.specs.Places.{first_place, places}
 use Rattle.layer_core.specs.SpanRules.{are_fragments}
 use Rattle.layer_core.specs.PairRules.{overlap_refused, refused_overlap}

@@ -23,7 +23,8 @@ use Rattle.layer_model.specs.Annotations.{Annotations}
 use Rattle.layer_model.specs.Classes.{letter_place, rank}
 use Rattle.layer_model.specs.Layers.{mark_at, mark_of, numbers}
 use Rattle.layer_model.specs.Numbers.{NumbersFit}
-use Rattle.layer_core.specs.Ids.{id_at, ids_of, ids_of_letter}
+use Rattle.mark_base.specs.ReadIds.{id_at}
+use Rattle.layer_core.specs.Ids.{ids_of, ids_of_letter}
 use Rattle.layer_core.specs.Walk.{first_among, flaw_at}
 use Rattle.layer_core.specs.FirstSeen.{first_with, keyed, repeat_after, same_numbers}
 use Rattle.layer_core.specs.declared.first_seen.Repeat.{Repeat}

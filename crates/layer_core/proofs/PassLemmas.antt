@@ -17,7 +17,7 @@ use Rattle.layer_model.specs.declared.flaw.FlawPlace.TheVariants as at
 use Rattle.layer_model.specs.Annotations.{Annotations}
 use Rattle.layer_model.specs.Layers.{IsLayer, mark_of, numbers}
 use Rattle.layer_model.specs.Numbers.{NumbersFit}
-use Rattle.layer_core.specs.Ids.{id_at}
+use Rattle.mark_base.specs.ReadIds.{id_at}
 use Rattle.layer_core.specs.Places.{by_place, first_place, places}
 use Rattle.layer_core.specs.WellFormed.{no_class}
 use Rattle.layer_core.specs.Walk.{first_among, first_from, flaw_at}

@@ -23,22 +23,23 @@ use Rattle.layer_model.specs.Annotations.{Annotations}
 use Rattle.layer_model.specs.Layers.{mark_of}
 use Rattle.layer_model.specs.Numbers.{NumbersFit}
 use Rattle.layer_model.proofs.Maps.{same_list}
-use Rattle.layer_core.specs.Ids.{id_at, ids_of_letter}
+use Rattle.mark_base.specs.ReadIds.{id_at}
+use Rattle.layer_core.specs.Ids.{ids_of_letter}
 use Rattle.layer_core.specs.Places.{by_place, first_place, places}
 use Rattle.layer_core.specs.Walk.{flaw_at, lower_flaw, lowest_at, lowest_of, lowest_from, first_among}
 use Rattle.layer_core.proofs.FlawLemmas.{lower_assoc, or_assoc}
 
 -- ---- the entries of a map are what it has
 
-left : (a b : Bool) → T (a && b) → T a
+pub left : (a b : Bool) → T (a && b) → T a
 left true b h = tt
 left false b h = h
 
-right : (a b : Bool) → T (a && b) → T b
+pub right : (a b : Bool) → T (a && b) → T b
 right true b h = h
 right false b h = absurd h
 
-is_less : (r : Ordering) → T (is_lt r) → r ≡ Less
+pub is_less : (r : Ordering) → T (is_lt r) → r ≡ Less
 is_less Less h = refl
 is_less Equal h = absurd h
 is_less Greater h = absurd h

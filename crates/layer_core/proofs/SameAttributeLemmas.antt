@@ -12,7 +12,8 @@ use Rattle.layer_model.specs.Annotations.{Annotations}
 use Rattle.layer_model.specs.Layers.{IsLayer}
 use Rattle.layer_model.specs.Classes.{rank}
 use Rattle.layer_model.specs.declared.rule.Rule.{Rule}
-use Rattle.layer_core.specs.Ids.{id_at, ids_of}
+use Rattle.mark_base.specs.ReadIds.{id_at}
+use Rattle.layer_core.specs.Ids.{ids_of}
 use Rattle.layer_core.specs.Places.{first_place, places}
 use Rattle.layer_core.specs.PairRules.{attribute_there, same_attributes}
 use Rattle.layer_core.specs.WellFormed.{at_attribute_there}

@@ -22,7 +22,8 @@ use Rattle.layer_model.specs.Layers.{count, mark_at, with_mark, without, has_num
 use Rattle.layer_model.specs.Classes.{joined, parted}
 use Rattle.layer_core.specs.declared.command.Command.{Command}
 use Rattle.layer_core.specs.declared.command.Command.TheVariants as ask
-use Rattle.layer_core.specs.Ids.{id_at, ids_of, ids_of_letter}
+use Rattle.mark_base.specs.ReadIds.{id_at}
+use Rattle.layer_core.specs.Ids.{ids_of, ids_of_letter}
 use Rattle.layer_core.specs.Rules.{named_by}
 use Rattle.layer_core.specs.PairRules.{is_id, is_arg}
 use Rattle.layer_core.specs.Fields.{event_named, is_span_letter, is_event_letter, is_relation_letter, first_naming, is_in_trigger, args_named, arg_named, Valued, Undeclared, Declared, value_of, attribute_on}

@@ -13,7 +13,7 @@ use Rattle.layer_model.specs.declared.relation.Relation.{Relation}
 use Rattle.layer_model.specs.declared.span.Span.{Span}
 use Rattle.layer_core.specs.declared.first_seen.KeyedId.{KeyedId}
 use Rattle.layer_core.specs.declared.first_seen.Repeat.{Repeat}
-use Rattle.layer_core.specs.Ids.{id_at}
+use Rattle.mark_base.specs.ReadIds.{id_at}
 
 -- an annotation and the numbers that stand for it
 abbrev pub shown : KeyedId → AnnId × List ℕ

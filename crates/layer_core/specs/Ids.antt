@@ -1,17 +1,13 @@
--- IDs by letter and number, and their order.
-use Rattle.std.specs.Prelude.{ℕ, min, List, [], ◌∷◌, map}
+-- The IDs of a layer, and their order.
+use Rattle.std.specs.Prelude.{ℕ, List, [], ◌∷◌, map}
 use Rattle.std.specs.List.{flat_map}
-use Rattle.std.proofs.Math.Nat.{min-le_right}
 use Rattle.mark_base.specs.declared.ann_id.AnnId.{AnnId}
 use Rattle.mark_base.specs.declared.ann_id.Kind.{Kind}
 use Rattle.mark_base.specs.declared.ann_id.Kind.TheVariants.{Text, Event, Relation, Attribute, Legacy, Normal, Note}
+use Rattle.mark_base.specs.ReadIds.{id_at}
 use Rattle.layer_model.specs.Annotations.{Annotations}
 use Rattle.layer_model.specs.Classes.{rank}
 use Rattle.layer_model.specs.Layers.{numbers}
-
--- the ID of a letter and a number; a number above the greatest stands for the greatest
-abbrev pub id_at : Kind → ℕ → AnnId
-id_at kind number = record { kind = kind; number = min number 999999999; within = min-le_right number 999999999 }
 
 -- the letters in their order: T, E, R, A, M, N and #
 abbrev pub letters : List Kind

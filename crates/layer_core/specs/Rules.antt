@@ -17,7 +17,7 @@ use Rattle.layer_model.specs.declared.rule.Rule.TheVariants.{UnknownType, NotFor
 use Rattle.layer_model.specs.declared.rule.RoleAt.TheVariants as role
 use Rattle.layer_model.specs.Annotations.{Annotations}
 use Rattle.layer_model.specs.Layers.{has}
-use Rattle.layer_core.specs.Ids.{id_at}
+use Rattle.mark_base.specs.ReadIds.{id_at}
 use Rattle.layer_core.specs.Targets.{is_event_type, is_trigger, is_argument, is_attribute_target, is_normal_target, is_note_target, is_member, type_of, target_of}
 use Rattle.layer_core.specs.SpanRules.{are_fragments}
 

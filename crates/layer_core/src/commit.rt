@@ -3,7 +3,7 @@ ghost use Rattle.std.specs.Prelude.{◌≡◌, option_map};
 ghost use Rattle.layer_model.specs.declared.rule.Rule.{Rule};
 ghost use Rattle.layer_model.specs.declared.rule.RoleAt.{RoleAt};
 ghost use Rattle.mark_base.specs.declared.ann_id.Kind.{Kind};
-ghost use Rattle.layer_core.specs.Ids.{id_at};
+ghost use Rattle.mark_base.specs.ReadIds.{id_at};
 ghost use Rattle.layer_core.specs.WellFormed.{commit_fault, too_few_of};
 
 use crate::mark_rules::filled;

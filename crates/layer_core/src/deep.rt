@@ -9,7 +9,7 @@ ghost use Rattle.std.specs.List.{list_any};
 ghost use Rattle.std.specs.FinMap as finite;
 ghost use Rattle.mark_base.specs.declared.ann_id.Kind.{Kind};
 ghost use Rattle.layer_model.specs.declared.mark.Mark.{Mark};
-ghost use Rattle.layer_core.specs.Ids.{id_at};
+ghost use Rattle.mark_base.specs.ReadIds.{id_at};
 ghost use Rattle.layer_core.specs.Places.{first_place, places};
 ghost use Rattle.layer_core.specs.PairRules.{is_event_id, too_deep};
 ghost use Rattle.layer_core.specs.WellFormed.{at_too_deep};

@@ -2,7 +2,7 @@
 ghost use Rattle.std.specs.Prelude.{◌≡◌, IfOk, OnOk, true, option_map};
 ghost use Rattle.layer_model.specs.Layers.{has_number, is_of_kind, with_mark};
 ghost use Rattle.layer_core.specs.Drafts.{Draft as Drafted, free_number, new_number, with_changed, with_less, with_new};
-ghost use Rattle.layer_core.specs.Ids.{id_at};
+ghost use Rattle.mark_base.specs.ReadIds.{id_at};
 ghost use Rattle.layer_core.specs.Made.{draft_of};
 
 use crate::targets::id_at;

@@ -57,5 +57,6 @@ pub use crate::commit::may_commit;
 pub use crate::laws::{unflawed_layers, well_formed_layers_cohere};
 pub use crate::layer_check::check;
 pub use crate::refusal::Refusal;
+pub use crate::text_rules::{is_bad_entry, is_bad_store, is_bad_text};
 pub use crate::work::{Done, Work};
 pub use crate::worked_rows::examples_of_fields;

@@ -32,22 +32,23 @@ fn char_count(text: &str) -> usize
     text.chars().count()
 }
 
-/// Whether a text of a note or a normalization may not stand.
-pub(crate) fn is_bad_text(text: &str) -> bool
+/// Whether a text of a note or a normalization may not stand: it has more than 4,000 characters, or breaks
+/// its line. Cost: the text.
+pub fn is_bad_text(text: &str) -> bool
     ensures { result ≡ is_bad_text text.now }
 {
     char_count(text) > 4000 || breaks_line(text.as_bytes())
 }
 
-/// Whether an entry of a store may not stand.
-pub(crate) fn is_bad_entry(entry: &str) -> bool
+/// Whether an entry of a store may not stand: it is empty, or has white space. Cost: the entry.
+pub fn is_bad_entry(entry: &str) -> bool
     ensures { result ≡ is_bad_entry entry.now }
 {
     entry.is_empty() || has_whitespace(entry)
 }
 
-/// Whether the name of a store may not stand.
-pub(crate) fn is_bad_store(store: &str) -> bool
+/// Whether the name of a store may not stand: it is no entry, or has a colon. Cost: the name.
+pub fn is_bad_store(store: &str) -> bool
     ensures { result ≡ is_bad_store store.now }
 {
     is_bad_entry(store) || has_colon(store.as_bytes())

@@ -21,7 +21,7 @@ absent {X} n x e = absurd (let f : ◌≡◌ {A = Option X} None (Some x) = sym 
 unmapped : {X : Type 0} (f : X → Mark) (n : ℕ) → option_map f (finite.get (finite.empty {K = ℕ} {X = X} {R = nat_cmp}) n) ≡ None
 unmapped f n = ap (option_map f) (get-empty nat_cmp n)
 
-no_mark : (kind : Kind) (n : ℕ) → mark_of no_marks kind n ≡ None
+pub no_mark : (kind : Kind) (n : ℕ) → mark_of no_marks kind n ≡ None
 no_mark letter.Text n = unmapped marked.Span n
 no_mark letter.Event n = unmapped marked.Event n
 no_mark letter.Relation n = unmapped marked.Relation n

@@ -1,6 +1,7 @@
 use Rattle.std.proofs.Common.{◌≡◌, ◌++◌, drop}
 use Rattle.std.specs.Prelude.{map, option_map}
-use Rattle.ann_reader.specs.Words.{all_of, id_read}
+use Rattle.mark_base.specs.ReadIds.{id_read}
+use Rattle.ann_reader.specs.Words.{all_of}
 use Rattle.ann_reader.specs.FormShows.{seen_text}
 use Rattle.ann_reader.proofs.marks.ids_of.Given as goal
 

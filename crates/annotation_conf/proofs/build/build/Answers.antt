@@ -1,4 +1,4 @@
-use Rattle.std.proofs.Common.{◌≡◌, ◌∙◌, sym, ap, subst, IfOk}
+use Rattle.std.proofs.Common.{◌≡◌, sym, subst, IfOk}
 use Rattle.annotation_conf.specs.ConfNames.{File}
 use Rattle.annotation_conf.specs.ConfOf.{configuration_of}
 use Rattle.annotation_conf.specs.BuildTold.{IsFaultless}

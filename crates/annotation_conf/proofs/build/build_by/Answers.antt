@@ -1,4 +1,4 @@
-use Rattle.std.proofs.Common.{◌≡◌, ◌∙◌, sym, ap, subst}
+use Rattle.std.proofs.Common.{◌∙◌, sym, subst}
 use Rattle.annotation_conf.specs.Kept.{IsKept}
 use Rattle.annotation_conf.proofs.BuildLaws.{kept_is, conf_same}
 use Rattle.annotation_conf.proofs.build.build_by.Goals as goal

@@ -1,4 +1,4 @@
-use Rattle.std.proofs.Common.{◌≡◌, ◌∙◌, ◌+◌, ◌<◌, List, [], ℕ, sym, ap, length, arith}
+use Rattle.std.proofs.Common.{◌∙◌, sym, ap, length, arith}
 use Rattle.annotation_conf.specs.FileShows.{seen_alternative}
 use Rattle.annotation_conf.specs.BuildPlaces.{inserted, names_in, places_by}
 use Rattle.annotation_conf.proofs.BuildOrder.{places_of_none}

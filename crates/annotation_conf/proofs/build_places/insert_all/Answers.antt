@@ -1,4 +1,4 @@
-use Rattle.std.proofs.Common.{◌≡◌, ◌∙◌, ◌+◌, ◌∷◌, sym, ap, refl, drop, get_or, add-one, drop-cons, length, ◌<◌, arith}
+use Rattle.std.proofs.Common.{◌≡◌, ◌∙◌, ◌+◌, ◌∷◌, sym, ap, refl, drop, get_or, add-one, drop-cons, length, ◌<◌}
 use Rattle.annotation_conf.specs.BuildPlaces.{inserted}
 use Rattle.annotation_conf.proofs.build_places.insert_all.Goals as goal
 

@@ -1,4 +1,4 @@
-use Rattle.std.proofs.Common.{◌≡◌, ◌∙◌, List, ℕ, Some, None, sym, ap, length, map, take}
+use Rattle.std.proofs.Common.{◌≡◌, ◌∙◌, List, ℕ, Some, None, sym, ap, length}
 use Rattle.annotation_conf.specs.FileShows.{seen_alternative}
 use Rattle.annotation_conf.specs.BuildPlaces.{inserted, names_in, place_in, places_by}
 use Rattle.annotation_conf.proofs.BuildOrder.{place_of_one, place_of_no}

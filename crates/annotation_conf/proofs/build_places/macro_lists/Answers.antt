@@ -1,4 +1,4 @@
-use Rattle.std.proofs.Common.{◌≡◌, ◌∙◌, ◌+◌, ◌<◌, ◌≤◌, ◌++◌, ◌∷◌, [], List, ℕ, sym, ap, subst, length, arith, map, take, get_or}
+use Rattle.std.proofs.Common.{◌≡◌, ◌∙◌, ◌<◌, ◌++◌, ◌∷◌, [], List, ℕ, sym, ap, length, arith, map, take, get_or}
 use Rattle.std.proofs.lemmas.List.{length-map, length-take-le}
 use Rattle.annotation_conf.specs.declared.file.MacroLine.{MacroLine as MacroLineValue}
 use Rattle.annotation_conf.specs.declared.build_places.Table.{Table}

@@ -1,4 +1,4 @@
-use Rattle.std.proofs.Common.{◌≡◌, ◌∙◌, ◌<◌, List, ℕ, sym, ap, get_or, length}
+use Rattle.std.proofs.Common.{◌∙◌, sym, length}
 use Rattle.annotation_conf.proofs.BuildHeld.{held_built, held_found, held_later, held_no}
 use Rattle.annotation_conf.proofs.build_places.macro_places.Goals as goal
 

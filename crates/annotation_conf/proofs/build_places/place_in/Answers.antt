@@ -1,4 +1,4 @@
-use Rattle.std.proofs.Common.{◌≡◌, ◌∙◌, ◌+◌, ◌<◌, ◌≤◌, List, ℕ, Fits, w16, sym, length, arith}
+use Rattle.std.proofs.Common.{◌∙◌, ◌≤◌, List, ℕ, sym, length, arith}
 use Rattle.annotation_conf.specs.BuildPlaces.{names_in}
 use Rattle.annotation_conf.proofs.BuildOrder.{StandsIn, stands_in}
 use Rattle.annotation_conf.proofs.build_places.place_in.Goals as goal

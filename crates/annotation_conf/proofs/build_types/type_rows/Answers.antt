@@ -1,8 +1,7 @@
-use Rattle.std.proofs.Common.{◌≡◌, ◌∙◌, ◌+◌, ◌<◌, ◌≤◌, ◌++◌, ◌∷◌, ◌==◌, cond, Some, [], List, ℕ, sym, ap, map, take, drop, length, arith, get_or}
+use Rattle.std.proofs.Common.{◌≡◌, ◌∙◌, ◌+◌, ◌<◌, ◌++◌, ◌∷◌, cond, Some, [], List, ℕ, ap, map, take, drop, length, arith}
 use Rattle.std.specs.BTreeMap.{get, is_at}
 use Rattle.std.specs.Ordering.{nat_cmp}
 use Rattle.std.proofs.lemmas.List.{length-append}
-use Rattle.type_hierarchy.specs.declared.type_row.TypeRow.{TypeRow}
 use Rattle.annotation_conf.specs.declared.file.TypeLine.{TypeLine}
 use Rattle.annotation_conf.specs.ConfOf.{rows_from}
 use Rattle.annotation_conf.specs.BuildTold.{bare_type, parent_by}

@@ -1,4 +1,3 @@
-use Rattle.std.proofs.Common.{length}
 use Rattle.annotation_conf.proofs.canonical_text.+push_tabs.Given as goal
 
 abbrev pub decreases-push_tabs : goal.decreases-push_tabs

@@ -1,4 +1,4 @@
-use Rattle.std.proofs.Common.{◌≡◌, ◌++◌, ◌∙◌, ap, sym, refl, cond, string_bytes, rules, List, ℕ, codes, filter, false, true}
+use Rattle.std.proofs.Common.{◌≡◌, ◌++◌, ◌∙◌, ap, cond, string_bytes, rules, List, ℕ, codes, filter, false, true}
 use Rattle.std.specs.List.{flat_map, enumerate_from}
 use Rattle.type_hierarchy.specs.declared.type_row.TypeRow.{TypeRow}
 use Rattle.annotation_conf.specs.Configurations.{RelationType, AttributeType, Overlap}

@@ -1,4 +1,4 @@
-use Rattle.std.proofs.Common.{◌≡◌, ◌∙◌, ◌+◌, ◌<◌, Option, Some, None, Ok, ℕ, sym, ap, subst, option_map, length}
+use Rattle.std.proofs.Common.{◌∙◌, ◌<◌, Ok, sym, ap, subst, option_map, length}
 use Rattle.annotation_conf.specs.ConfNames.{File}
 use Rattle.annotation_conf.specs.FaultsFirst.{seen_fault}
 use Rattle.annotation_conf.proofs.FaultAnswers.{text_faulty, text_faultless, few_lines}

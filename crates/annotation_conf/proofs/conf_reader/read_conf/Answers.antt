@@ -1,4 +1,4 @@
-use Rattle.std.proofs.Common.{◌≡◌, ◌∙◌, ◌<◌, ℕ, length, arith}
+use Rattle.std.proofs.Common.{◌∙◌, ◌<◌, length, arith}
 use Rattle.std.specs.Str.{valid_up_to}
 use Rattle.annotation_conf.proofs.FaultAnswers.{bytes_faulty}
 use Rattle.annotation_conf.proofs.conf_reader.read_conf.Goals as goal

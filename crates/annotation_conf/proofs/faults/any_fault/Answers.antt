@@ -1,9 +1,8 @@
-use Rattle.std.proofs.Common.{◌≡◌, ◌∙◌, ◌+◌, ◌<◌, Option, None, ℕ, sym, ap, subst, option_map, length, arith}
+use Rattle.std.proofs.Common.{◌≡◌, ◌∙◌, sym, ap, subst, option_map, length, arith}
 use Rattle.std.specs.Option.{option_or}
 use Rattle.std.proofs.lemmas.List.{length-map}
 use Rattle.annotation_conf.specs.ConfNames.{File}
-use Rattle.annotation_conf.specs.ConfOf.{Fault, missing_fault}
-use Rattle.annotation_conf.specs.FirstFaults.{soonest_fault}
+use Rattle.annotation_conf.specs.ConfOf.{missing_fault}
 use Rattle.annotation_conf.specs.FileKept.{kept_line}
 use Rattle.annotation_conf.specs.FileShows.{seen_line}
 use Rattle.annotation_conf.specs.KnownFiles.{IsKnown}

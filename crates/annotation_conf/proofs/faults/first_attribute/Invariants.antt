@@ -1,4 +1,4 @@
-use Rattle.std.proofs.Common.{◌≡◌, drop, None, take, length}
+use Rattle.std.proofs.Common.{◌≡◌, drop}
 use Rattle.annotation_conf.specs.FirstFaults.{first_among}
 use Rattle.annotation_conf.specs.FaultsTold.{attribute_told}
 use Rattle.annotation_conf.proofs.faults.first_attribute.Given as goal

@@ -1,4 +1,4 @@
-use Rattle.std.proofs.Common.{◌≡◌, drop, None, take, length}
+use Rattle.std.proofs.Common.{◌≡◌, drop, None}
 use Rattle.annotation_conf.specs.FaultsFirst.{first_entity_told}
 use Rattle.annotation_conf.proofs.faults.first_entity.Given as goal
 

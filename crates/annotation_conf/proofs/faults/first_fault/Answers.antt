@@ -1,4 +1,4 @@
-use Rattle.std.proofs.Common.{◌≡◌, ◌∙◌, List, [], false, Option, None, ℕ, sym, ap, subst, refl, option_map, length}
+use Rattle.std.proofs.Common.{◌≡◌, ◌∙◌, [], false, Option, None, ap, subst, refl}
 use Rattle.annotation_conf.specs.declared.file.File.{File as FileValue}
 use Rattle.annotation_conf.specs.declared.line.Section.{Section}
 use Rattle.annotation_conf.specs.declared.line.Section.TheVariants.{Entities, Relations, Events, Attributes}
@@ -9,7 +9,7 @@ use Rattle.annotation_conf.specs.ConfOf.{Fault}
 use Rattle.annotation_conf.specs.FirstFaults.{first_among, sooner, soonest_fault, bare_fault, event_fault, macro_line_fault}
 use Rattle.annotation_conf.specs.KnownFiles.{IsKnown}
 use Rattle.annotation_conf.specs.FaultsTold.{relation_told, overlap_told, attribute_told}
-use Rattle.annotation_conf.specs.FaultsFirst.{seen_fault, first_entity_told, first_event_told, first_macro_told, first_bare_told, none_open, is_open}
+use Rattle.annotation_conf.specs.FaultsFirst.{first_entity_told, first_event_told, first_macro_told, first_bare_told, none_open, is_open}
 use Rattle.annotation_conf.proofs.FaultTold.{relation_is, overlap_is, attribute_is}
 use Rattle.annotation_conf.proofs.FaultFirsts.{first_bare_is, first_macro_is, first_entity_is, first_event_is, first_named_is}
 use Rattle.annotation_conf.proofs.faults.first_fault.Goals as goal

@@ -1,8 +1,7 @@
-use Rattle.std.proofs.Common.{◌≡◌, ◌∙◌, ◌+◌, ◌<◌, ◌≤◌, ℕ, List, sym, ap, subst, length, arith, take}
+use Rattle.std.proofs.Common.{◌≡◌, ◌∙◌, sym, ap, subst, length, arith, take}
 use Rattle.std.proofs.lemmas.List.{length-map}
 use Rattle.annotation_conf.specs.ConfNames.{File, MacroLine}
-use Rattle.annotation_conf.specs.declared.faults_macros.Kinds.{Kinds}
-use Rattle.annotation_conf.specs.KnownMacros.{kinds_of, kinds_of_macros, AreFirstKinds}
+use Rattle.annotation_conf.specs.KnownMacros.{kinds_of, AreFirstKinds}
 use Rattle.annotation_conf.proofs.FaultMacros.{front_kinds}
 use Rattle.annotation_conf.proofs.faults.first_macro.Goals as goal
 

@@ -1,4 +1,4 @@
-use Rattle.std.proofs.Common.{◌≡◌, drop, None, take, length}
+use Rattle.std.proofs.Common.{◌≡◌, drop}
 use Rattle.annotation_conf.specs.FaultsFirst.{first_macro_told}
 use Rattle.annotation_conf.proofs.faults.first_macro.Given as goal
 

@@ -1,4 +1,4 @@
-use Rattle.std.proofs.Common.{◌≡◌, ◌∙◌, ◌+◌, ◌-◌, ◌<◌, ℕ, sym, ap, subst, length, arith, get_or, Option, Some, None, true}
+use Rattle.std.proofs.Common.{◌≡◌, ◌∙◌, ◌-◌, ◌<◌, sym, ap, subst, length, arith, get_or, Option, Some, None, true}
 use Rattle.std.specs.Option.{option_map_or}
 use Rattle.annotation_conf.specs.ConfNames.{File, NamedLine}
 use Rattle.annotation_conf.specs.ConfFaults.{of_named}

@@ -1,4 +1,4 @@
-use Rattle.std.proofs.Common.{◌≡◌, ◌∙◌, ◌+◌, ◌<◌, sym, ap, length, arith, Some}
+use Rattle.std.proofs.Common.{◌∙◌, sym, ap, length, Some}
 use Rattle.annotation_conf.proofs.FaultMacros.{held_at, held_past, held_nowhere, read_kinds, no_macro}
 use Rattle.annotation_conf.proofs.faults_macros.held_macro.Goals as goal
 

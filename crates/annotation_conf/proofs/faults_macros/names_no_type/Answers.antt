@@ -1,4 +1,4 @@
-use Rattle.std.proofs.Common.{◌≡◌, ◌∙◌, sym, ap, length, false}
+use Rattle.std.proofs.Common.{◌∙◌, sym, ap, length, false}
 use Rattle.std.specs.Option.{option_map_or}
 use Rattle.annotation_conf.specs.declared.faults_macros.Kinds.{Kinds}
 use Rattle.annotation_conf.specs.FileShows.{seen_alternative}

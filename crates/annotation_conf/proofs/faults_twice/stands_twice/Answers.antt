@@ -1,4 +1,4 @@
-use Rattle.std.proofs.Common.{◌≡◌, ◌∙◌, ◌+◌, ◌<◌, ℕ, sym, subst, length, arith, map, take}
+use Rattle.std.proofs.Common.{◌∙◌, sym, arith}
 use Rattle.std.proofs.lemmas.Map.Text.{btree_map_updates_str}
 use Rattle.annotation_conf.proofs.FaultNames.{finds_new}
 use Rattle.annotation_conf.proofs.FaultTwice.{twice_now, not_yet}

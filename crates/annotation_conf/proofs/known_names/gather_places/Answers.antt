@@ -1,4 +1,4 @@
-use Rattle.std.proofs.Common.{◌≡◌, ◌∙◌, ◌+◌, ◌<◌, ℕ, sym, subst, length, arith, map, take}
+use Rattle.std.proofs.Common.{◌∙◌, ◌+◌, ℕ, sym, subst, arith, map, take}
 use Rattle.std.specs.BTreeMap.{BTreeMap}
 use Rattle.std.proofs.lemmas.Map.Text.{btree_map_updates_str}
 use Rattle.annotation_conf.specs.NamesKnown.{seen_declared, FindsPlaces}

@@ -1,7 +1,7 @@
 use Rattle.std.proofs.Common.{◌++◌, map, sym, ◌∙◌, ap, append-nil}
 use Rattle.std.specs.Map.{keys_of}
 use Rattle.layer_model.proofs.Maps.{same_list}
-use Rattle.layer_core.specs.Ids.{id_at}
+use Rattle.mark_base.specs.ReadIds.{id_at}
 use Rattle.layer_core.proofs.finds.push_ids.Goals as goal
 
 pub returns : goal.returns

@@ -1,6 +1,6 @@
 use Rattle.std.proofs.Common.{◌≡◌, ◌++◌, map}
 use Rattle.std.specs.Map.{keys_of}
-use Rattle.layer_core.specs.Ids.{id_at}
+use Rattle.mark_base.specs.ReadIds.{id_at}
 use Rattle.layer_core.proofs.finds.push_ids.Given as goal
 
 abbrev pub invariant-loop-number : goal.invariant-loop-number

@@ -3,7 +3,7 @@ use Rattle.std.specs.FinMap as finite
 use Rattle.mark_base.specs.declared.ann_id.Kind.TheVariants as letter
 use Rattle.layer_model.specs.declared.rule.Rule.TheVariants.{OverlapRefused}
 use Rattle.layer_model.specs.declared.flaw.FlawPlace.TheVariants as at
-use Rattle.layer_core.specs.Ids.{id_at}
+use Rattle.mark_base.specs.ReadIds.{id_at}
 use Rattle.layer_core.proofs.PairLemmas.{first_item, items}
 use Rattle.layer_core.proofs.PlaceLemmas.{all_entries}
 use Rattle.layer_core.proofs.OverlapLemmas.{allowed_here, by_spans, good_ascending, good_some, no_refusal, none_left, not_held, refused_here, seen_more, seen_none, stands_first, told}

@@ -1,5 +1,4 @@
-use Rattle.std.proofs.Common.{◌≡◌, true, ap, add-one}
-use Rattle.layer_model.specs.Coherent.{begins_chain}
+use Rattle.std.proofs.Common.{add-one}
 use Rattle.layer_model.proofs.Chains.{shorter}
 use Rattle.layer_model.proofs.laws.shorter_chains_begin.Goals as goal
 

@@ -1,4 +1,4 @@
-use Rattle.std.proofs.Common.{◌≡◌, ◌∙◌, List, ℕ, sym, ap, map}
+use Rattle.std.proofs.Common.{◌∙◌, ap, map}
 use Rattle.annotation_conf.specs.declared.build_places.Table.TheVariants.{Types, Relations}
 use Rattle.annotation_conf.specs.ConfNames.{File, MacroLine}
 use Rattle.annotation_conf.specs.BuildPlaces.{places_held}

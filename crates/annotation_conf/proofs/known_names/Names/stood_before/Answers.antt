@@ -1,8 +1,8 @@
-use Rattle.std.proofs.Common.{◌≡◌, ◌∙◌, ◌+◌, ◌-◌, ◌<◌, ℕ, sym, ap, nat_lt, length, arith, map, get_or, Some, None, List}
+use Rattle.std.proofs.Common.{◌≡◌, ◌∙◌, ◌-◌, ◌<◌, sym, ap, nat_lt, length, arith, map, get_or, List}
 use Rattle.std.proofs.lemmas.List.{get_or-map, length-map}
 use Rattle.annotation_conf.specs.declared.known_names.DeclaredName.{DeclaredName}
 use Rattle.annotation_conf.specs.ConfFaults.{Declared, stood_before}
-use Rattle.annotation_conf.specs.NamesKnown.{seen_declared, place_among}
+use Rattle.annotation_conf.specs.NamesKnown.{seen_declared}
 use Rattle.annotation_conf.proofs.FaultNames.{StandsThere, stood_there, stood_nowhere}
 use Rattle.annotation_conf.proofs.known_names.Names.stood_before.Goals as goal
 
