@@ -1,23 +1,17 @@
 -- IDs and fragments are read back from their words.
-use Rattle.std.proofs.Common.{◌≡◌, refl, sym, ap, ap₂, ◌∙◌, ℕ, zero, suc, ◌<◌, ◌≤◌, ◌^◌, Bool, true, false, cond, not, ◌||◌, ◌&&◌, ◌==◌, List, [], ◌∷◌, ◌++◌, length, map, nat_lt, slice_index, get_or, decimal, arith, append-nil, append_assoc, codes, Some, None, option_map, option_and_then}
-use Rattle.std.proofs.lemmas.Bool.{and_from, lt-ltb, eq-eqb, eqb-true}
-use Rattle.std.proofs.lemmas.Fmt.{digits_decimal, digits_value-decimal, decimal_nonempty, length-decimal-le, first_decimal, decimal_digit}
-use Rattle.std.specs.Str.{NonePass, all_ascii_digits}
-use Rattle.std.specs.Str.Parse.{digits_value}
+use Rattle.std.proofs.Common.{◌≡◌, refl, sym, ap, ap₂, ◌∙◌, ℕ, ◌≤◌, ◌==◌, List, [], ◌∷◌, ◌++◌, map, decimal, arith, append-nil, append_assoc, codes, Some}
+use Rattle.std.specs.Str.{NonePass}
 use Rattle.std.specs.List.{AllByRecursion, slice_split}
 use Rattle.mark_base.specs.declared.ann_id.AnnId.{AnnId}
-use Rattle.mark_base.specs.declared.ann_id.Kind.{Kind}
-use Rattle.mark_base.specs.declared.ann_id.Kind.TheVariants as letter
 use Rattle.mark_base.specs.declared.fragments.Frag.{Frag}
-use Rattle.mark_base.specs.AnnIds.{is_canonical, letter_of, spelling_of, number_read, kind_read}
 use Rattle.annotation_conf.proofs.WrittenLists.{split_none, split_at, none-append}
-use Rattle.mark_base.specs.ReadIds.{id_at, id_read}
+use Rattle.mark_base.specs.ReadIds.{id_read}
 use Rattle.mark_base.proofs.IdLemmas.{id_at-id, spelling_read}
 use Rattle.mark_base.proofs.NumberLemmas.{number_read_back}
 use Rattle.ann_reader.specs.Words.{words_of, frag_of, frag_read, all_of}
 use Rattle.ann_reader.specs.Forms.{frags_read}
 use Rattle.ann_writer.specs.Words.{id_word, frag_word, frags_word, words_behind}
-use Rattle.ann_writer.proofs.PlainWords.{IsPlain, own, decimal_plain, decimal_semicolon, plain-append}
+use Rattle.ann_writer.proofs.PlainWords.{IsPlain, decimal_plain, decimal_semicolon, plain-append}
 use Rattle.ann_writer.proofs.FieldWords.{words_read, all_read}
 
 -- ---- IDs

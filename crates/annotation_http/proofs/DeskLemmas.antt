@@ -1,6 +1,6 @@
 -- What a desk does by a message, from what it does by the message's route.
-use Rattle.std.proofs.Common.{◌≡◌, ◌⊎◌, ℕ, List, Option, Some, None, Result, Ok, Err, refl, inl, inr}
-use Rattle.std.specs.Prelude.{IfOk, OnErr, length}
+use Rattle.std.proofs.Common.{◌≡◌, ◌⊎◌, ℕ, List, Option, Some, Result, Ok, Err, refl, inl, inr}
+use Rattle.std.specs.Prelude.{IfOk, OnErr}
 use Rattle.http_wire.specs.declared.answer.Answer.{Answer}
 use Rattle.http_wire.specs.declared.message.Message.{Message}
 use Rattle.layer_model.specs.Annotations.{Annotations}

@@ -1,5 +1,5 @@
 -- What is answered to what is refused: the name of the rule, what it names, and the status.
-use Rattle.std.specs.Prelude.{ℕ, List, [], ◌∷◌, ◌++◌, Bool, nat_lt, if◌then◌else◌, Option, Some, None, unwrap_or, codes, decimal}
+use Rattle.std.specs.Prelude.{ℕ, List, [], ◌∷◌, ◌++◌, nat_lt, if◌then◌else◌, Option, Some, None, unwrap_or, codes, decimal}
 use Rattle.json.specs.Print.{quoted}
 use Rattle.serde_json.specs.Data.{Data, string, number, unsigned, object, member, no_members}
 use Rattle.mark_base.specs.declared.ann_id.AnnId.{AnnId}

@@ -129,13 +129,21 @@ fn only(alloc: Global, gone: AnnId, ids: &[AnnId]) -> Result<Vec<AnnId>, Memory>
 fn are_same(a: &[AnnId], b: &[AnnId]) -> bool
     ensures { result ≡ same_ids a.now b.now }
 {
-    match a {
-        [] => b.is_empty(),
-        [first, rest @ ..] => match b {
-            [] => false,
-            [other, others @ ..] => is_id(*first, *other) && are_same(rest, others),
-        },
+    let mut left = a;
+    let mut right = b;
+    while let Some((id, others)) = left.split_first() {
+        match right {
+            [] => return false,
+            [other, rest @ ..] => {
+                if !is_id(*id, *other) {
+                    return false;
+                }
+                left = others;
+                right = rest;
+            }
+        }
     }
+    right.is_empty()
 }
 
 /// What falls with an annotation that goes: it, what names it, what names that, and so on. Cost: the

@@ -1,21 +1,19 @@
 -- What the calls of a desk keep.
-use Rattle.std.proofs.Common.{◌≡◌, ℕ, ◌+◌, ◌-◌, ◌<◌, ◌≤◌, inl, inr, ⊎_elim, true, false, cond, List, [], ◌∷◌, ◌++◌, length, Option, Some, None, Result, Ok, Err, refl, sym, ◌∙◌, ap, subst, arith}
-use Rattle.std.specs.Prelude.{IsOk, is_ok, nat_lt, reverse, option_map, ok_or, unwrap_or}
+use Rattle.std.proofs.Common.{◌≡◌, ℕ, ◌+◌, ◌-◌, ◌<◌, ◌≤◌, ⊎_elim, List, [], ◌∷◌, ◌++◌, length, Option, Some, None, Ok, Err, refl, sym, ◌∙◌, ap, subst, arith}
+use Rattle.std.specs.Prelude.{IsOk, is_ok, nat_lt, reverse, option_map, unwrap_or}
 use Rattle.std.specs.Result.{result_err, result_ok}
 use Rattle.std.proofs.lemmas.Bool.{cases_lt, cond-true, cond-false, false≢true, lt-ltb, le-ltb}
 use Rattle.std.proofs.lemmas.List.{append-nil, length-append}
 use Rattle.std.proofs.lemmas.Option.{none-some, slice_get_within}
 use Rattle.mark_base.specs.declared.ann_id.AnnId.{AnnId}
 use Rattle.annotation_conf.specs.Configurations.{Configuration}
-use Rattle.layer_model.specs.declared.rule.Rule.{Rule}
-use Rattle.layer_model.specs.declared.rule.Rule.TheVariants.{DeskFull, NothingToUndo, NothingToRedo}
+use Rattle.layer_model.specs.declared.rule.Rule.TheVariants.{DeskFull}
 use Rattle.layer_model.specs.Annotations.{Annotations}
 use Rattle.layer_core.specs.declared.command.Command.{Command}
-use Rattle.layer_core.specs.Commands.{Applied, apply}
-use Rattle.layer_core.specs.WellFormed.{IsWellFormed}
+use Rattle.layer_core.specs.Commands.{apply}
 use Rattle.layer_core.specs.Works.{WorkState}
 use Rattle.layer_undo.specs.Replays.{Outcome, next, replay_from, replay, first_refusal}
-use Rattle.layer_undo.specs.Desks.{DeskState, IsDesk, IsWorkOf, layer_of, with_scripts, last_of, but_last, Performed, performed, taken_in, after_undo, after_redo, settled}
+use Rattle.layer_undo.specs.Desks.{DeskState, IsDesk, IsWorkOf, layer_of, with_scripts, last_of, but_last}
 use Rattle.layer_undo.proofs.ReplayLemmas.{replay_front, replay_on, same_refusal, split_last}
 
 -- the outcome of both scripts of a desk

@@ -1,11 +1,9 @@
 -- Laws of desks under any calls.
-use Rattle.std.proofs.Common.{◌≡◌, ℕ, ◌+◌, ◌-◌, ◌<◌, ◌≤◌, Bool, true, false, cond, List, [], ◌∷◌, ◌++◌, length, take, Option, Some, None, Result, Ok, Err, IfOk, refl, sym, ◌∙◌, ap, subst, arith}
+use Rattle.std.proofs.Common.{◌≡◌, ℕ, ◌+◌, ◌-◌, Bool, true, false, List, [], ◌∷◌, ◌++◌, length, take, Option, Some, None, Result, Ok, Err, IfOk, refl, sym, ◌∙◌, ap, subst, arith}
 use Rattle.std.specs.Prelude.{IsOk, is_ok, suc, slice_get, nat_lt, replicate, reverse, option_map, ok_or, unwrap_or, if◌then◌else◌}
 use Rattle.std.specs.Result.{result_ok}
 use Rattle.std.proofs.lemmas.Bool.{false≢true, ltb-true}
 use Rattle.std.proofs.lemmas.List.{append-nil, append_assoc, reverse-append, length_push, take_at}
-use Rattle.std.proofs.lemmas.Option.{none-some, slice_get-get_or}
-use Rattle.mark_base.specs.declared.ann_id.AnnId.{AnnId}
 use Rattle.annotation_conf.specs.Configurations.{Configuration}
 use Rattle.layer_model.specs.declared.rule.Rule.{Rule}
 use Rattle.layer_model.specs.declared.rule.Rule.TheVariants.{DeskFull, NothingToUndo, NothingToRedo}
@@ -13,8 +11,8 @@ use Rattle.layer_model.specs.Annotations.{Annotations}
 use Rattle.layer_core.specs.declared.command.Command.{Command}
 use Rattle.layer_core.specs.Commands.{Applied, apply}
 use Rattle.layer_core.specs.WellFormed.{IsWellFormed}
-use Rattle.layer_undo.specs.Replays.{Outcome, next, replay_from, replay, first_refusal}
-use Rattle.layer_undo.specs.Desks.{DeskState, IsDesk, layer_of, with_scripts, last_of, but_last, Performed, performed, taken_in, after_undo, after_redo, settled}
+use Rattle.layer_undo.specs.Replays.{Outcome, next, replay_from, replay}
+use Rattle.layer_undo.specs.Desks.{DeskState, IsDesk, layer_of, with_scripts, last_of, but_last, Performed, performed, taken_in, after_undo, after_redo}
 use Rattle.layer_undo.specs.Calls.{Call, Perform, Undo, Redo, Settle, after_call, after_calls}
 use Rattle.layer_undo.proofs.ReplayLemmas.{replay_front}
 use Rattle.layer_undo.proofs.DeskLemmas.{all_accepted, last_splits, one_more, perform_keeps, redo_keeps, undo_keeps}

@@ -1,8 +1,8 @@
 -- Commands in turn: those of two lists one behind the other, and those of two scripts.
-use Rattle.std.proofs.Common.{◌≡◌, ℕ, ◌+◌, ◌-◌, ◌<◌, ◌≤◌, Bool, true, false, List, [], ◌∷◌, ◌++◌, length, take, Option, Some, None, Result, Ok, Err, refl, sym, ◌∙◌, ap, arith}
+use Rattle.std.proofs.Common.{◌≡◌, ℕ, ◌+◌, ◌-◌, ◌<◌, List, [], ◌∷◌, ◌++◌, length, take, Option, Some, Result, Ok, Err, refl, sym, ◌∙◌, ap, arith}
 use Rattle.std.specs.Prelude.{IsOk, is_ok, suc, nat_lt, reverse, slice_get, if◌then◌else◌}
 use Rattle.std.specs.Result.{result_err}
-use Rattle.std.proofs.lemmas.List.{append_assoc, append-nil, length-append, reverse-append}
+use Rattle.std.proofs.lemmas.List.{append_assoc, length-append, reverse-append}
 use Rattle.std.proofs.lemmas.Bool.{false≢true}
 use Rattle.annotation_conf.specs.Configurations.{Configuration}
 use Rattle.layer_model.specs.declared.rule.Rule.{Rule}

@@ -2,7 +2,7 @@
 use Rattle.std.specs.Prelude.{List, [], ◌∷◌, option_map, unwrap_or}
 use Rattle.std.specs.Result.{result_ok}
 use Rattle.layer_core.specs.declared.command.Command.{Command}
-use Rattle.layer_undo.specs.Desks.{DeskState, Performed, performed, after_undo, after_redo, settled}
+use Rattle.layer_undo.specs.Desks.{DeskState, performed, after_undo, after_redo, settled}
 
 -- what is asked of a desk
 pub data Call : Type 0 where

@@ -1,5 +1,5 @@
 -- Commands that are carried out in turn.
-use Rattle.std.specs.Prelude.{ℕ, ◌+◌, List, [], ◌∷◌, ◌++◌, length, reverse, nat_lt, Option, Some, None, Result, Ok, Err, if◌then◌else◌}
+use Rattle.std.specs.Prelude.{ℕ, ◌+◌, List, [], ◌∷◌, ◌++◌, length, reverse, nat_lt, Option, Some, Result, Ok, Err, if◌then◌else◌}
 use Rattle.std.specs.Result.{result_err}
 use Rattle.annotation_conf.specs.Configurations.{Configuration}
 use Rattle.layer_model.specs.declared.rule.Rule.{Rule}

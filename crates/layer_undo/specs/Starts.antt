@@ -1,5 +1,5 @@
 -- What the refusals of a desk say.
-use Rattle.std.specs.Prelude.{◌≡◌, ℕ, List, length, Some, Result, Err, ⊤}
+use Rattle.std.specs.Prelude.{◌≡◌, ℕ, List, Some, Result, Err, ⊤}
 use Rattle.annotation_conf.specs.Configurations.{Configuration}
 use Rattle.layer_model.specs.declared.rule.Rule.{Rule}
 use Rattle.layer_model.specs.Annotations.{Annotations}
