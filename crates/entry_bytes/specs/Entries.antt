@@ -1,5 +1,5 @@
 -- The entries of a project's journal as bytes.
-use Rattle.std.specs.Prelude.{ℕ, Bool, true, false, ◌<◌, ◌^◌, List, [], ◌∷◌, ◌++◌, length, ⊤}
+use Rattle.std.specs.Prelude.{ℕ, ◌<◌, ◌^◌, List, [], ◌∷◌, ◌++◌, length, ⊤}
 use Rattle.entry_bytes.specs.declared.entry.Entry.{Entry}
 use Rattle.entry_bytes.specs.declared.entry.Entry.TheVariants as entry
 use Rattle.entry_bytes.specs.Fields.{u32_bytes, u64_bytes, flag, slug_bytes, text_bytes, people_bytes, IsText, IsSlug, ArePeople}
@@ -75,26 +75,3 @@ IsEntry (entry.Snapshot doc layers) = (doc < 2 ^ 32) × (layers < 256)
 IsEntry (entry.HeldLayer who lines) = IsSlug who × IsText lines
 IsEntry (entry.Decided pairs) = ⊤
 IsEntry entry.End = ⊤
-
--- whether an entry is a piece of a state
-abbrev pub is_piece : Entry → Bool
-is_piece (entry.Restored place level documents snapshots conf people) = true
-is_piece (entry.Document name text) = true
-is_piece (entry.Row doc who revision flags) = true
-is_piece (entry.Layer lines) = true
-is_piece (entry.Draft commands) = true
-is_piece (entry.Snapshot doc layers) = true
-is_piece (entry.HeldLayer who lines) = true
-is_piece (entry.Decided pairs) = true
-is_piece entry.End = true
-is_piece _ = false
-
--- whether an entry is a decision, or another act of a curator on a layer or a document
-abbrev pub is_curation : Entry → Bool
-is_curation (entry.Reopen by doc who) = true
-is_curation (entry.Snap by doc) = true
-is_curation (entry.Decide by snapshot holder kind number accept) = true
-is_curation (entry.Undecide by snapshot holder kind number) = true
-is_curation (entry.Ignore by doc who) = true
-is_curation (entry.Readmit by doc who) = true
-is_curation _ = false

@@ -1,4 +1,5 @@
-pub mod Fields
 pub mod Entries
+pub mod EntryKinds
 pub mod EntryReading
+pub mod Fields
 pub mod Reading

@@ -1,6 +1,7 @@
 //! Entries written as bytes.
 ghost use Rattle.std.specs.Prelude.{◌≡◌, ◌++◌, ◌||◌, true, OnOk, IfOk, Some};
-ghost use Rattle.entry_bytes.specs.Entries.{entry_bytes, is_piece, is_curation, HasSizes, HasNamedValues, IsEntry};
+ghost use Rattle.entry_bytes.specs.Entries.{entry_bytes, HasSizes, HasNamedValues, IsEntry};
+ghost use Rattle.entry_bytes.specs.EntryKinds.{is_piece, is_curation};
 ghost use Rattle.entry_bytes.specs.EntryReading.{entry_of};
 
 use crate::entry::Entry;
