@@ -127,7 +127,7 @@ pub fn write_entry(alloc: Global, entry: &Entry) -> Result<Bytes, Memory>
     ensures bytes { IfOk result (λ bytes. bytes ≡ entry_bytes entry.now) }
     // What is written is read as the entry.
     ensures decodes { IfOk result (λ bytes. HasNamedValues entry.now → entry_of bytes ≡ Some entry.now) }
-    // The type's own facts, of which a caller that has read the bytes may want to speak.
+    // What the types of its fields say, so that the laws on entries speak of it.
     ensures is_entry { OnOk result (HasNamedValues entry.now → IsEntry entry.now) }
 {
     let mut out = Vec::new(alloc);
