@@ -1,0 +1,16 @@
+pub mod AddLemmas
+pub mod BagLemmas
+pub mod BuiltLemmas
+pub mod CarryLemmas
+pub mod ContentLemmas
+pub mod CounterpartLemmas
+pub mod EnterLemmas
+pub mod IdLemmas
+pub mod MoveLemmas
+pub mod NodeLemmas
+pub mod NumberLemmas
+pub mod OrderLemmas
+pub mod PlaceLemmas
+pub mod PlacedLemmas
+pub mod TableLemmas
+pub mod WordLemmas

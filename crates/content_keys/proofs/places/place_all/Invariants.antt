@@ -1,0 +1,5 @@
+use Rattle.content_keys.specs.Places.{AreRight, ArePlaced}
+use Rattle.content_keys.proofs.places.place_all.Given as goal
+
+abbrev pub invariant-loop-depth : goal.invariant-loop-depth
+invariant-loop-depth l = AreRight l.layer l.table l.places × ArePlaced l._depth l.layer l.places

@@ -1,0 +1,19 @@
+-- How counterparts are found, from places of one table to those of another.
+use Rattle.std.specs.Prelude.{◌==◌, ℕ, List, [], ◌∷◌, Option, Some, None, option_and_then, if◌then◌else◌}
+use Rattle.mark_base.specs.declared.ann_id.AnnId.{AnnId}
+use Rattle.content_keys.specs.declared.counterparts.Found.{Found}
+use Rattle.content_keys.specs.declared.places.Placed.{Placed}
+use Rattle.content_keys.specs.Carrying.{move_at}
+
+-- the annotation and its counterpart
+abbrev pub pair_of : Found → AnnId × Option AnnId
+pair_of found = (found.id, found.there)
+
+-- the first annotation at a place
+abbrev pub first_at : List Placed → ℕ → Option AnnId
+first_at [] place = None
+first_at (p ∷ ps) place = if p.place == place then Some p.id else first_at ps place
+
+-- an annotation and the first of the others at the place where its place moves to
+abbrev pub found_at : List (Option ℕ) → List Placed → Placed → AnnId × Option AnnId
+found_at moves others p = (p.id, option_and_then (first_at others) (move_at moves p.place))

@@ -1,0 +1,10 @@
+pub mod Numbers
+pub mod Nodes
+pub mod Parts
+pub mod Contents
+pub mod Founds
+pub mod LayerContents
+pub mod Counterparts
+pub mod Tables
+pub mod Carrying
+pub mod Places

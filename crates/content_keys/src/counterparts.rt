@@ -1,0 +1,59 @@
+//! The counterparts of the annotations of a layer in another.
+ghost use Rattle.std.specs.Prelude.{◌≡◌, map};
+ghost use Rattle.content_keys.specs.Counterparts.{counterpart_among};
+ghost use Rattle.content_keys.specs.Founds.{pair_of};
+
+use layer_model::rank;
+use mark_base::AnnId;
+use std::marker::Model;
+
+/// An annotation and its counterpart.
+#[derive(Clone, Copy)]
+pub(crate) struct Found {
+    pub id: AnnId,
+    pub there: Option<AnnId>,
+}
+
+/// The counterpart of each annotation of a layer in another layer: the lowest annotation there with the
+/// same content.
+#[derive(Drop)]
+pub struct Counterparts {
+    found: Vec<Found>,
+}
+
+impl Model for Counterparts {
+    ghost use Rattle.std.specs.Prelude.{List, Option, map};
+    ghost use Rattle.std.specs.Coded.{coded_list, coded×, coded_option};
+    ghost use Rattle.mark_base.specs.declared.ann_id.AnnId.{AnnId};
+    ghost use Rattle.mark_base.specs.contracts.ann_id.AnnId as id_row;
+    ghost use Rattle.content_keys.specs.Founds.{pair_of};
+
+    ghost Value = { List (AnnId × Option AnnId) };
+
+    ghost coded = { coded_list (coded× id_row.the_row.coded (coded_option id_row.the_row.coded)) };
+
+    ghost view = { λ counterparts. map pair_of counterparts.found.items };
+}
+
+impl Counterparts {
+    /// These counterparts.
+    pub(crate) fn of(found: Vec<Found>) -> Counterparts
+        ensures { result ≡ map pair_of found.items }
+    {
+        Counterparts { found }
+    }
+
+    /// The lowest annotation of the other layer with the same content, and None where none has it. A
+    /// note, and an ID that this layer does not have, have no counterpart. It takes no memory. Cost: the
+    /// annotations of this layer up to the ID.
+    pub fn counterpart(&self, id: AnnId) -> Option<AnnId>
+        ensures { result ≡ counterpart_among self.now id }
+    {
+        for found in &self.found {
+            if rank(found.id) == rank(id) {
+                return found.there;
+            }
+        }
+        None
+    }
+}
