@@ -6,6 +6,7 @@ pub mod ContentLemmas
 pub mod CounterpartLemmas
 pub mod EnterLemmas
 pub mod IdLemmas
+pub mod LawLemmas
 pub mod MoveLemmas
 pub mod NodeLemmas
 pub mod NumberLemmas

@@ -1,14 +1,9 @@
 use Rattle.std.proofs.Common.{◌≡◌, ℕ, List, ◌∷◌, map, refl, ap, inl, inr}
 use Rattle.content_keys.specs.Numbers.{paired, listed, sorted}
 use Rattle.content_keys.specs.Nodes.{Node, number}
-pub use Rattle.content_keys.specs.Nodes.{Names}
+pub use Rattle.content_keys.specs.Nodes.{AreAlike, Names}
 use Rattle.content_keys.proofs.NumberLemmas.{listed_same}
 use Rattle.content_keys.proofs.BagLemmas.{map_same}
-
-pub record AreAlike {I J : Type 0} (v : I → ℕ) (w : J → ℕ) (s : Node I) (t : Node J) : Type 0 where
-  pub own : s.own ≡ t.own
-  pub named : map v s.named ≡ map w t.named
-  pub bag : sorted (map (λ p. paired p.0 (v p.1)) s.bag) ≡ sorted (map (λ p. paired p.0 (w p.1)) t.bag)
 
 head_same : (x y : ℕ) (xs ys : List ℕ) → x ∷ xs ≡ y ∷ ys → x ≡ y
 head_same x y xs ys e = cc

@@ -8,3 +8,4 @@ pub mod Counterparts
 pub mod Tables
 pub mod Carrying
 pub mod Places
+pub mod WorkedLayers

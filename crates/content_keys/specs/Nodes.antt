@@ -23,6 +23,12 @@ Names {I} x s = IsIn x s.named ⊎ ((r : ℕ) × IsIn (r, x) s.bag)
 unfoldable pub number : {I : Type 0} → (I → ℕ) → Node I → ℕ
 number v s = listed (listed s.own ∷ listed (map v s.named) ∷ sorted (map (λ p. paired p.0 (v p.1)) s.bag))
 
+-- two nodes have the same own numbers, name the same contents in order, and the same bag of roles and contents
+pub record AreAlike {I J : Type 0} (v : I → ℕ) (w : J → ℕ) (s : Node I) (t : Node J) : Type 0 where
+  pub own : s.own ≡ t.own
+  pub named : map v s.named ≡ map w t.named
+  pub bag : sorted (map (λ p. paired p.0 (v p.1)) s.bag) ≡ sorted (map (λ p. paired p.0 (w p.1)) t.bag)
+
 -- a node over places is stored as the tuple of its fields
 abbrev pub node_code : Coded (Node ℕ)
 node_code =

@@ -5,11 +5,15 @@ mod carrying;
 mod counterparts;
 mod ids;
 mod keys;
+mod laws;
 mod parts;
 mod places;
 mod shape;
 mod table;
 mod word;
+mod worked_rows;
 
 pub use crate::counterparts::Counterparts;
 pub use crate::keys::Keys;
+pub use crate::laws::{contents_are_their_parts, counterparts_are_lowest};
+pub use crate::worked_rows::{examples_of_contents, examples_of_counterparts};
