@@ -30,7 +30,7 @@ same_test a b c d there back =
 
 module _ (table : List (Node ℕ)) (is : IsTable table) where
   -- the first annotation at a place is the first with its content
-  pub first_found : (v j : ℕ) → j < length table → read (values table) j ≡ v → (others : List Placed) → All (λ p. p.place < length table) others → first_at others j ≡ first_with (contents_at table others) v
+  pub first_found : (v j : ℕ) → j < length table → read (values table) j ≡ v → (others : List Placed) → All (λ p. p.place < length table) others → first_at others j ≡ first_with (contents_at (values table) others) v
   first_found v j h e [] within = refl
   first_found v j h e (p ∷ ps) within =
       let here : p.place < length table = within 0 p (omega arith) in
@@ -40,14 +40,14 @@ module _ (table : List (Node ℕ)) (is : IsTable table) where
       ∙ ap (cond (eqb (read (values table) p.place) v) (Some p.id)) (first_found v j h e ps (λ k d l. within (suc k) d (omega arith)))
 
   -- a content that the table lacks is that of none
-  pub first_lost : (v : ℕ) → ((j : ℕ) → j < length (values table) → read (values table) j ≢ v) → (others : List Placed) → All (λ p. p.place < length table) others → None ≡ first_with (contents_at table others) v
+  pub first_lost : (v : ℕ) → ((j : ℕ) → j < length (values table) → read (values table) j ≢ v) → (others : List Placed) → All (λ p. p.place < length table) others → None ≡ first_with (contents_at (values table) others) v
   first_lost v none [] within = refl
   first_lost v none (p ∷ ps) within =
       let here : p.place < length table = within 0 p (omega arith) in
       let long : length (values table) ≡ length table = length_values table in
       elim (eqb_tells (read (values table) p.place) v) [
         | inl q ↦ absurd (none p.place (omega arith) q.1)
-        | inr q ↦ first_lost v none ps (λ k d l. within (suc k) d (omega arith)) ∙ (λ i. cond (sym q.0 i) (Some p.id) (first_with (contents_at table ps) v))
+        | inr q ↦ first_lost v none ps (λ k d l. within (suc k) d (omega arith)) ∙ (λ i. cond (sym q.0 i) (Some p.id) (first_with (contents_at (values table) ps) v))
       ]
 
 -- the counterpart of an ID is that of its content
@@ -62,9 +62,9 @@ counterpart_is (entry ∷ entries) others id =
 
 -- what the moves find is the counterpart of each
 module _ (A B : List (Node ℕ)) (b : IsTable B) (ms : List (Option ℕ)) (long : length ms ≡ length A) (right : AreMoves A B ms) (others : List Placed) (within : All (λ p. p.place < length B) others) where
-  found_one : (p : Placed) → p.place < length A → option_and_then (first_at others) (move_at ms p.place) ≡ first_with (contents_at B others) (read (values A) p.place)
+  found_one : (p : Placed) → p.place < length A → option_and_then (first_at others) (move_at ms p.place) ≡ first_with (contents_at (values B) others) (read (values A) p.place)
   found_one p h =
-      elim (move_at ms p.place) as (λ o. IsPlace (values B) (read (values A) p.place) o → option_and_then (first_at others) o ≡ first_with (contents_at B others) (read (values A) p.place)) [
+      elim (move_at ms p.place) as (λ o. IsPlace (values B) (read (values A) p.place) o → option_and_then (first_at others) o ≡ first_with (contents_at (values B) others) (read (values A) p.place)) [
         | None ↦ λ none. first_lost B b (read (values A) p.place) none others within
         | Some j ↦ λ there.
             let all : length (values B) ≡ length B = length_values B in
@@ -72,7 +72,7 @@ module _ (A B : List (Node ℕ)) (b : IsTable B) (ms : List (Option ℕ)) (long 
             first_found B b (read (values A) p.place) j (omega arith) there.1 others within
       ] (right p.place (omega arith))
 
-  pub found_all : (placed : List Placed) → All (λ p. p.place < length A) placed → map (found_at ms others) placed ≡ counterparts_in (contents_at A placed) (contents_at B others)
+  pub found_all : (placed : List Placed) → All (λ p. p.place < length A) placed → map (found_at ms others) placed ≡ counterparts_in (contents_at (values A) placed) (contents_at (values B) others)
   found_all [] all = refl
   found_all (p ∷ ps) all =
       let here : p.place < length A = all 0 p (omega arith) in

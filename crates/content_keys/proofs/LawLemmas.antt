@@ -1,5 +1,5 @@
 -- The counterpart is the lowest annotation of the other layer with the same content, and contents are equal where the parts are.
-use Rattle.std.proofs.Common.{◌≡◌, ℕ, ◌+◌, ◌*◌, ◌<◌, ◌≤◌, ◌⊎◌, min, eqb, Bool, true, false, ◌&&◌, cond, T, List, [], ◌∷◌, ◌++◌, map, refl, sym, ap, ◌∙◌, subst, arith, inl, inr, Option, Some, None, IsSome, MatchOption, option_and_then, ◌↔◌}
+use Rattle.std.proofs.Common.{◌≡◌, ℕ, ◌<◌, ◌≤◌, min, Bool, true, false, ◌&&◌, cond, T, List, [], ◌∷◌, ◌++◌, map, refl, sym, ap, ◌∙◌, subst, arith, inl, inr, Option, Some, None, IsSome, option_and_then, ◌↔◌}
 use Rattle.std.proofs.lemmas.Bool.Decides.{eqb_tells}
 use Rattle.std.proofs.lemmas.Option.{same_Some}
 use Rattle.std.specs.List.{AllByRecursion}
@@ -9,7 +9,6 @@ use Rattle.std.specs.Cmp.{ranked}
 use Rattle.std.specs.FinMap as finite
 use Rattle.std.specs.FinMap.{entries_sorted}
 use Rattle.std.specs.FinMap.Entries.{below_all, is_sorted}
-use Rattle.std.specs.declared.cmp.Ordering.{Ordering}
 use Rattle.std.specs.declared.cmp.Ordering.TheVariants.{Less, Equal, Greater}
 use Rattle.mark_base.specs.declared.ann_id.AnnId.{AnnId}
 use Rattle.mark_base.specs.declared.ann_id.Kind.{Kind}
@@ -20,9 +19,8 @@ use Rattle.layer_model.specs.Classes.{letter_place, rank}
 use Rattle.layer_model.specs.Coherent.{IsCoherent}
 use Rattle.layer_model.specs.Layers.{IsLayer}
 use Rattle.content_keys.specs.Nodes.{AreAlike, IsIn, Node, number}
-use Rattle.content_keys.specs.Contents.{content}
-use Rattle.content_keys.specs.LayerContents.{content_of, contents_of, ids_of, ids_of_letter, node_of}
-use Rattle.content_keys.specs.Counterparts.{AreSame, IsLowest, behind, counterpart_in, first_with}
+use Rattle.content_keys.specs.LayerContents.{content_of, contents_of, ids_of, node_of}
+use Rattle.content_keys.specs.Counterparts.{IsLowest, behind, counterpart_in, first_with}
 use Rattle.content_keys.proofs.BuiltLemmas.{coherent_built}
 use Rattle.content_keys.proofs.ContentLemmas.{content_of_parts}
 use Rattle.content_keys.proofs.IdLemmas.{ids_have, in_ids, same_rank}

@@ -13,5 +13,6 @@ pub mod NumberLemmas
 pub mod OrderLemmas
 pub mod PlaceLemmas
 pub mod PlacedLemmas
+pub mod StartLemmas
 pub mod TableLemmas
 pub mod WordLemmas

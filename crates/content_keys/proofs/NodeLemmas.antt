@@ -1,4 +1,4 @@
-use Rattle.std.proofs.Common.{◌≡◌, ℕ, List, ◌∷◌, map, refl, ap, inl, inr}
+use Rattle.std.proofs.Common.{◌≡◌, ℕ, List, ◌∷◌, refl, ap, inl, inr}
 use Rattle.content_keys.specs.Numbers.{paired, listed, sorted}
 use Rattle.content_keys.specs.Nodes.{Node, number}
 pub use Rattle.content_keys.specs.Nodes.{AreAlike, Names}

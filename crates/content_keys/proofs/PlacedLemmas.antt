@@ -116,9 +116,9 @@ module _ (l : Annotations) (table : List (Node ℕ)) (places : BTreeMap ℕ ℕ)
   abbrev entry : AnnId → AnnId × ℕ
   entry id = (id, content_of l id)
 
-  pub placed_more : (c : ℕ) (old new : List Placed) → place_of places x ≡ Some c → new ≡ old ++ record { id = x; place = c } ∷ [] → contents_at table old ≡ map entry (take i ids) → contents_at table new ≡ map entry (take (i + 1) ids)
+  pub placed_more : (c : ℕ) (old new : List Placed) → place_of places x ≡ Some c → new ≡ old ++ record { id = x; place = c } ∷ [] → contents_at (values table) old ≡ map entry (take i ids) → contents_at (values table) new ≡ map entry (take (i + 1) ids)
   placed_more c old new e is so_far =
-      ap (contents_at table) is ∙ map-append (λ p. (p.id, read (values table) p.place)) old (record { id = x; place = c } ∷ [])
+      ap (contents_at (values table)) is ∙ map-append (λ p. (p.id, read (values table) p.place)) old (record { id = x; place = c } ∷ [])
       ∙ (λ j. so_far j ++ (x, (right x c e).1 j) ∷ [])
       ∙ (λ j. map entry (take i ids) ++ entry (at j) ∷ [])
       ∙ sym (ap (map entry) (take_more ids i x h) ∙ map-append entry (take i ids) (get_or ids i x ∷ []))

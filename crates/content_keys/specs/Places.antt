@@ -31,9 +31,9 @@ ArePlaced depth layer places = (id : AnnId) → IsBuilt (node_of layer) depth id
 abbrev pub AreBuilt : Annotations → Type 0
 AreBuilt layer = (id : AnnId) → IsSome (node_of layer id) → IsBuilt (node_of layer) 19 id
 
--- the contents of placed annotations, each behind its ID
-abbrev pub contents_at : List (Node ℕ) → List Placed → List (AnnId × ℕ)
-contents_at table placed = map (λ p. (p.id, slice_index (values table) p.place)) placed
+-- the contents of placed annotations by the contents of the places, each behind its ID
+abbrev pub contents_at : List ℕ → List Placed → List (AnnId × ℕ)
+contents_at contents placed = map (λ p. (p.id, slice_index contents p.place)) placed
 
 -- in a round: of the annotations before the index, each that is built one deeper than what had a place has one
 pub record Rounds (layer : Annotations) (ids : List AnnId) (old new : BTreeMap ℕ ℕ) (index : ℕ) : Type 0 where

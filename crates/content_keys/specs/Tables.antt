@@ -1,5 +1,5 @@
 -- Tables of contents: each content once, by a place from 0, behind those that it names.
-use Rattle.std.specs.Prelude.{◌≡◌, ◌≢◌, ◌⊎◌, ℕ, ◌+◌, ◌*◌, ◌<◌, ◌≤◌, List, [], ◌∷◌, ◌++◌, map, length, slice_index, slice_index_or, Option, MatchOption}
+use Rattle.std.specs.Prelude.{◌≡◌, ◌≢◌, ◌⊎◌, ℕ, ◌+◌, ◌*◌, ◌<◌, ◌≤◌, List, [], ◌∷◌, ◌++◌, map, length, take, slice_index, slice_index_or, Option, MatchOption}
 use Rattle.std.specs.Ordering.{nat_cmp}
 use Rattle.std.specs.Cmp.Lexicographic.{slice_cmp}
 use Rattle.std.specs.BTreeMap.{BTreeMap, get}
@@ -57,6 +57,10 @@ pub record MayAdd (ss : List (Node ℕ)) (s : Node ℕ) : Type 0 where
   pub room : length ss < 4294967295
   pub below : (x : ℕ) → Names x s → x < length ss
   pub rising : sorted (map link_rank s.bag) ≡ map link_rank s.bag
+
+-- the second list begins with the first
+abbrev pub Starts : {X : Type 0} → List X → List X → Type 0
+Starts old new = take (length old) new ≡ old
 
 -- the table with a content behind it where it was not there, which stands at a place
 pub record IsAdded (ss : List (Node ℕ)) (s : Node ℕ) (t : List (Node ℕ)) (i : ℕ) : Type 0 where

@@ -29,12 +29,13 @@ impl Model for Keys {
     ghost use Rattle.mark_base.specs.declared.ann_id.AnnId.{AnnId};
     ghost use Rattle.mark_base.specs.contracts.ann_id.AnnId as id_row;
     ghost use Rattle.content_keys.specs.Places.{contents_at};
+    ghost use Rattle.content_keys.specs.Tables.{values};
 
     ghost Value = { List (AnnId × ℕ) };
 
     ghost coded = { coded_list (coded× id_row.the_row.coded coded_ℕ) };
 
-    ghost view = { λ keys. contents_at keys.table keys.placed.items };
+    ghost view = { λ keys. contents_at (values keys.table) keys.placed.items };
 
     ghost invariant = { λ keys. All (λ p. p.place < length keys.table) keys.placed.items };
 }

@@ -6,7 +6,7 @@ ghost use Rattle.content_keys.specs.LayerContents.{content_of, contents_of, ids_
 ghost use Rattle.content_keys.specs.Nodes.{Names, number};
 ghost use Rattle.content_keys.specs.Parts.{made_of};
 ghost use Rattle.content_keys.specs.Places.{AreBuilt, ArePlaced, AreRight, Keeps, contents_at, place_of};
-ghost use Rattle.content_keys.specs.Tables.{MayAdd, values};
+ghost use Rattle.content_keys.specs.Tables.{MayAdd, Starts, values};
 
 use crate::carrying::order;
 use crate::ids::ids_of;
@@ -18,9 +18,9 @@ use mark_base::{AnnId, Arg, Memory};
 use std::alloc::Global;
 use std::collections::BTreeMap;
 
-/// An annotation and the place of its content in a table.
-#[derive(Clone, Copy)]
-pub(crate) struct Placed {
+/// An annotation and the place of its content in a table, counted from 0.
+#[derive(Clone, Copy, Debug, PartialEq, Eq)]
+pub struct Placed {
     pub id: AnnId,
     pub place: u32,
 }
@@ -103,6 +103,7 @@ fn enter(
     ensures right { OnOk result (AreRight layer.now table.new places.new) }
     ensures here { OnOk result (IsSome (place_of places.new id)) }
     ensures keeps { OnOk result (Keeps places.old places.new) }
+    ensures grown { Starts table.old table.new }
 {
     let place = table.add(alloc, shape)?;
     table.is_table();
@@ -123,6 +124,7 @@ fn try_place(
     ensures right { OnOk result (AreRight layer.now table.new places.new) }
     ensures here { OnOk result ((s : _) → node_of layer.now id ≡ Some s → ((y : _) → Names y s → IsSome (place_of places.old y)) → IsSome (place_of places.new id)) }
     ensures keeps { OnOk result (Keeps places.old places.new) }
+    ensures grown { Starts table.old table.new }
 {
     if place_of(places, id).is_some() {
         return Ok(());
@@ -152,6 +154,7 @@ fn round(
     requires all { ids.now ≡ ids_of layer.now }
     ensures right { OnOk result (AreRight layer.now table.new places.new) }
     ensures deeper { OnOk result ((depth : ℕ) → ArePlaced depth layer.now places.old → ArePlaced (suc depth) layer.now places.new) }
+    ensures grown { Starts table.old table.new }
 {
     for id in ids {
         try_place(alloc, layer, *id, table, places)?;
@@ -171,6 +174,7 @@ fn place_all(
     requires all { ids.now ≡ ids_of layer.now }
     ensures right { IfOk result (λ places. AreRight layer.now table.new places) }
     ensures all { IfOk result (λ places. ArePlaced 19 layer.now places) }
+    ensures grown { Starts table.old table.new }
 {
     let mut places = BTreeMap::new(alloc);
     for _depth in 0..19u32 {
@@ -187,8 +191,9 @@ pub(crate) fn placed_in(
     table: &mut Table,
 ) -> Result<Vec<Placed>, Memory>
     requires { AreBuilt layer.now }
-    ensures contents { IfOk result (λ placed. contents_at table.new placed.items ≡ contents_of layer.now) }
+    ensures contents { IfOk result (λ placed. contents_at (values table.new) placed.items ≡ contents_of layer.now) }
     ensures within { IfOk result (λ placed. All (λ p. p.place < length table.new) placed.items) }
+    ensures grown { Starts table.old table.new }
 {
     layer.keeps();
     let ids = ids_of(alloc, layer)?;

@@ -51,6 +51,13 @@ impl Table {
         self.shapes.len() >= 4294967295
     }
 
+    /// How many contents there are.
+    pub(crate) fn count(&self) -> usize
+        ensures { result ≡ length self.now }
+    {
+        self.shapes.len()
+    }
+
     /// Tells a proof what every table keeps. It does nothing.
     pub(crate) fn is_table(&self)
         ensures { IsTable self.now }

@@ -1,0 +1,66 @@
+//! The contents of several layers in one table.
+ghost use Rattle.std.specs.Prelude.{◌≡◌, ℕ, ◌<◌, [], length, All, IfOk, slice_index};
+ghost use Rattle.layer_model.specs.Coherent.{IsCoherent};
+ghost use Rattle.content_keys.specs.LayerContents.{contents_of};
+ghost use Rattle.content_keys.specs.Places.{contents_at};
+ghost use Rattle.content_keys.specs.Tables.{Starts};
+
+use crate::places::{Placed, placed_in};
+use crate::table::Table;
+use layer_model::Layer;
+use mark_base::Memory;
+use std::alloc::Global;
+use std::marker::Model;
+
+/// The contents of layers, each once, by their places from 0. Layers that share a table are compared
+/// place by place: two annotations have the same content exactly where they have the same place.
+#[derive(Drop)]
+pub struct ContentTable {
+    table: Table,
+}
+
+impl Model for ContentTable {
+    ghost use Rattle.std.specs.Prelude.{List, ℕ};
+    ghost use Rattle.content_keys.specs.Tables.{values};
+
+    ghost Value = { List ℕ };
+
+    ghost view = { λ contents. values contents.table };
+}
+
+impl ContentTable {
+    /// A table with no contents.
+    pub fn new(alloc: Global) -> ContentTable
+        ensures { result ≡ [] }
+    {
+        ContentTable {
+            table: Table::new(alloc),
+        }
+    }
+
+    /// How many contents the table has.
+    pub fn count(&self) -> usize
+        ensures { result ≡ length self.now }
+    {
+        self.table.count()
+    }
+
+    /// The places of the annotations of a well-formed layer that have a content, by letter, then by
+    /// number. Contents that the table lacks are added behind its others, which keep their places, also
+    /// where memory is wanting. Cost: 20 look-ups for each annotation.
+    pub fn place(&mut self, alloc: Global, layer: &Layer) -> Result<Vec<Placed>, Memory>
+        requires { IsCoherent layer.now }
+        ensures contents { IfOk result (λ placed. contents_at self.new placed.items ≡ contents_of layer.now) }
+        ensures within { IfOk result (λ placed. All (λ p. p.place < length self.new) placed.items) }
+        ensures grown { Starts self.old self.new }
+    {
+        placed_in(alloc, layer, &mut self.table)
+    }
+
+    /// Tells a proof that no content has two places. It does nothing.
+    pub fn differ(&self)
+        ensures { (i j : ℕ) → i < length self.now → j < length self.now → slice_index self.now i ≡ slice_index self.now j → i ≡ j }
+    {
+        self.table.is_table();
+    }
+}
