@@ -47,7 +47,8 @@ impl ContentTable {
 
     /// The places of the annotations of a well-formed layer that have a content, by letter, then by
     /// number. Contents that the table lacks are added behind its others, which keep their places, also
-    /// where memory is wanting. Cost: 20 look-ups for each annotation.
+    /// where memory is wanting. A table of 4,294,967,295 contents takes no more, and answers want of memory.
+    /// Cost: 20 look-ups for each annotation.
     pub fn place(&mut self, alloc: Global, layer: &Layer) -> Result<Vec<Placed>, Memory>
         requires { IsCoherent layer.now }
         ensures contents { IfOk result (λ placed. contents_at self.new placed.items ≡ contents_of layer.now) }

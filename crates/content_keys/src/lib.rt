@@ -33,8 +33,6 @@ mod parts;
 mod places;
 mod shape;
 mod table;
-#[cfg(test)]
-mod tests;
 mod word;
 mod worked_rows;
 

@@ -2,10 +2,10 @@
 ghost use Rattle.std.specs.Prelude.{IfOk};
 ghost use Rattle.layer_model.specs.Coherent.{IsCoherent};
 
-use crate::{ContentTable, Counterparts, Keys};
 use ann_reader::read_ann;
 use annotation_conf::read_conf;
 use char_documents::Doc;
+use content_keys::{ContentTable, Counterparts, Keys};
 use layer_core::well_formed_layers_cohere;
 use layer_model::Layer;
 use mark_base::AnnId;
