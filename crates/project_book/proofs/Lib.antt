@@ -1,0 +1,4 @@
+mod EmptyLemmas
+mod HistoryLemmas
+mod ObeyLemmas
+mod RosterLemmas

@@ -1,0 +1,13 @@
+use Rattle.std.proofs.Common.{ℕ, ◌-◌, ◌<◌, arith}
+use Rattle.project_book.specs.History.{begin, legal_step}
+use Rattle.project_book.proofs.HistoryLemmas.{front_legal, place_last}
+use Rattle.project_book.proofs.laws.histories_go_on.Goals as goal
+
+pub returns-clause-step : goal.returns-clause-step
+returns-clause-step c = λ log caller asked happened legal is. legal_step log caller asked happened legal is
+
+pub returns-clause-upto : goal.returns-clause-upto
+returns-clause-upto c = λ log place legal behind. front_legal (place - begin log) log legal (omega arith)
+
+pub returns-clause-place : goal.returns-clause-place
+returns-clause-place c = place_last

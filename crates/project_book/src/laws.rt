@@ -1,0 +1,23 @@
+//! Laws of histories. Each function but for a call of a law below does nothing; its contract is the law.
+ghost use Rattle.std.specs.Prelude.{◌≡◌, ℕ, ◌<◌, ◌≤◌, List, [], ◌∷◌, ◌++◌, Some};
+ghost use Rattle.project_book.specs.Machine.{step};
+ghost use Rattle.project_book.specs.Requests.{Asked, Happened};
+ghost use Rattle.project_book.specs.History.{IsLegal, LayersObey, after, begin, last, upto};
+
+use layer_core::unflawed_layers;
+
+/// What a step makes happen goes on with a history, and a history up to any of its places is one too. The state
+/// behind a history stands at the place of its last change.
+pub fn histories_go_on()
+    ensures step { (log : List Happened) (caller : List ℕ) (asked : Asked) (happened : Happened) → IsLegal log → (step (after log) caller asked).change ≡ Some happened → IsLegal (log ++ happened ∷ []) }
+    ensures upto { (log : List Happened) (place : ℕ) → IsLegal log → begin log < place → IsLegal (upto place log) }
+    ensures place { (log : List Happened) → IsLegal log → (after log).place ≡ last log }
+{}
+
+/// At every place of a history each committed layer obeys the configuration: it is well-formed, and each event
+/// has as many arguments of each role as the role asks.
+pub fn committed_layers_obey()
+    ensures { (log : List Happened) (place : ℕ) → IsLegal log → begin log < place → LayersObey (after (upto place log)) }
+{
+    unflawed_layers();
+}
