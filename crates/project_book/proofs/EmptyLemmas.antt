@@ -12,7 +12,6 @@ use Rattle.layer_model.specs.Annotations.{no_marks}
 use Rattle.layer_model.specs.Layers.{numbers}
 use Rattle.layer_model.specs.declared.flaw.Flaw.{Flaw}
 use Rattle.layer_model.specs.declared.flaw.FlawPlace.TheVariants as at
-use Rattle.layer_model.specs.declared.rule.Rule.{Rule}
 use Rattle.layer_core.specs.Ids.{letters}
 use Rattle.layer_core.specs.Places.{places, first_rule}
 use Rattle.layer_core.specs.WellFormed.{least_flaw, commit_fault, in_order, first_told, too_few}

@@ -1,8 +1,7 @@
 -- The state behind one more change, the places of a history, and its fronts.
-use Rattle.std.proofs.Common.{◌≡◌, ℕ, ◌+◌, ◌-◌, ◌<◌, ◌≤◌, Bool, true, false, List, [], ◌∷◌, ◌++◌, length, take, Option, Some, None, zero, suc, refl, sym, ◌∙◌, ap, subst, arith, length-append, inl, inr}
+use Rattle.std.proofs.Common.{◌≡◌, ℕ, ◌+◌, ◌<◌, ◌≤◌, List, [], ◌∷◌, ◌++◌, length, take, Option, Some, None, zero, suc, refl, sym, ◌∙◌, ap, subst, arith, length-append, inl, inr}
 use Rattle.std.proofs.lemmas.List.{take-append-le}
 use Rattle.std.proofs.lemmas.Bool.{cases_lt}
-use Rattle.annotation_conf.specs.Configurations.{Configuration}
 use Rattle.project_book.specs.declared.book_refusal.BookRefusal.{BookRefusal}
 use Rattle.project_book.specs.ProjectState.{ProjectState}
 use Rattle.project_book.specs.Requests.{Asked, ReadConf, ListDocs, ReadText, AddText, Checkout, TakeOver, Commit, Park, Finish, ReadLayer, Reopen, Ignore, Readmit, Answered, Happened, AllFreed}
@@ -60,7 +59,7 @@ begin_push : (log : List Happened) (e : Happened) → 0 < length log → begin (
 begin_push [] e h = absurd (omega arith)
 begin_push (x ∷ log) e h = refl
 
-length_push : (log : List Happened) (e : Happened) → length (log ++ e ∷ []) ≡ length log + 1
+pub length_push : (log : List Happened) (e : Happened) → length (log ++ e ∷ []) ≡ length log + 1
 length_push log e = omega (arith, length-append log (e ∷ []))
 
 last_push : (log : List Happened) (e : Happened) → 0 < length log → last (log ++ e ∷ []) ≡ last log + 1
@@ -69,7 +68,7 @@ last_push log e h =
     let more : length (log ++ e ∷ []) ≡ length log + 1 = length_push log e in
     omega arith
 
-legal_some : (log : List Happened) → IsLegal log → 0 < length log
+pub legal_some : (log : List Happened) → IsLegal log → 0 < length log
 legal_some _ (legal_founding conf level people is) = omega arith
 legal_some _ (legal_restored state sound) = omega arith
 legal_some _ (legal_step log caller asked e l is) = let more : length (log ++ e ∷ []) ≡ length log + 1 = length_push log e in omega arith

@@ -1,4 +1,5 @@
 mod EmptyLemmas
 mod HistoryLemmas
+mod KeptLemmas
 mod ObeyLemmas
 mod RosterLemmas

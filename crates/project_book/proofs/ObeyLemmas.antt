@@ -1,5 +1,5 @@
 -- Committed layers obey the configuration from step to step.
-use Rattle.std.proofs.Common.{◌≡◌, ℕ, ◌+◌, ◌<◌, ◌≤◌, ◌||◌, Bool, true, false, not, List, [], ◌∷◌, ◌++◌, length, map, get_or, Option, Some, None, refl, sym, ◌∙◌, ap, subst, arith, inl, inr, replicate}
+use Rattle.std.proofs.Common.{◌≡◌, ℕ, ◌||◌, true, false, not, List, [], length, map, get_or, Option, Some, None, refl, sym, subst, arith, inl, inr}
 use Rattle.std.specs.List.{All}
 use Rattle.std.specs.Option.{option_map, option_or}
 use Rattle.std.proofs.lemmas.List.{get_or_past}
@@ -8,14 +8,12 @@ use Rattle.std.proofs.lemmas.Bool.{cases_lt}
 use Rattle.annotation_conf.specs.Configurations.{Configuration}
 use Rattle.layer_model.specs.Annotations.{Annotations}
 use Rattle.layer_model.specs.declared.flaw.Flaw.{Flaw}
-use Rattle.layer_model.specs.declared.rule.Rule.{Rule}
 use Rattle.layer_core.specs.WellFormed.{IsWellFormed, Obeys, least_flaw, commit_fault}
-use Rattle.project_book.specs.declared.book_refusal.BookRefusal.{BookRefusal}
 use Rattle.project_book.specs.declared.book_refusal.BookRefusal.TheVariants as no
 use Rattle.project_book.specs.declared.book_refusal.Policy.TheVariants as policy
 use Rattle.project_book.specs.ProjectState.{is_annotator, is_curator, row_in, Row, Document, ProjectState, blank_row, no_document, new_document, document, row, rater_of, with_row, number_of, annotators}
-use Rattle.project_book.specs.Requests.{Asked, ReadConf, ListDocs, ReadText, AddText, Checkout, TakeOver, Commit, Park, Finish, ReadLayer, Reopen, Ignore, Readmit, Happened, Founded, TextAdded, CheckedOut, TakenOver, LayerCommitted, LayerParked, LayerFinished, LayerReopened, LayerIgnored, LayerReadmitted, AllFreed, Restored}
-use Rattle.project_book.specs.Machine.{step, refusal, reply, change, policies, tests, first_of, when, there, held, commit_rule, size_of}
+use Rattle.project_book.specs.Requests.{Asked, ReadConf, ListDocs, ReadText, AddText, Checkout, TakeOver, Commit, Park, Finish, ReadLayer, Reopen, Ignore, Readmit, Happened, TextAdded, CheckedOut, TakenOver, LayerCommitted, LayerParked, LayerFinished, LayerReopened, LayerIgnored, LayerReadmitted, AllFreed}
+use Rattle.project_book.specs.Machine.{refusal, reply, change, policies, when, there, held, commit_rule, size_of}
 use Rattle.project_book.specs.History.{IsLegal, IsSound, legal_founding, legal_restored, legal_step, legal_freeing, after, effect, place_behind, on_row, freed, under_hold, with_commit, with_draft, with_finished, with_ignored, RowObeys, DocumentObeys, LayersObey}
 use Rattle.project_book.proofs.HistoryLemmas.{after_more, not_refused, makes_change}
 
@@ -24,20 +22,20 @@ abbrev pub Flawless : Type 0
 Flawless = (conf : Configuration) (characters : ℕ) (layer : Annotations) → least_flaw conf characters layer ≡ None → IsWellFormed conf characters layer
 
 -- what holds of each element and of what stands for none holds of the element of any index
-all_or : {X : Type 0} (P : X → Type 0) (xs : List X) (i : ℕ) (d : X) → All P xs → P d → P (get_or xs i d)
+pub all_or : {X : Type 0} (P : X → Type 0) (xs : List X) (i : ℕ) (d : X) → All P xs → P d → P (get_or xs i d)
 all_or P xs i d all none =
     elim (cases_lt i (length xs)) as (λ _. P (get_or xs i d)) [
       | inl within ↦ all i d within
       | inr past ↦ subst P (sym (get_or_past xs i d past)) none
     ]
 
-none_all : {X : Type 0} (P : X → Type 0) → All P []
+pub none_all : {X : Type 0} (P : X → Type 0) → All P []
 none_all P k d within = absurd (omega arith)
 
 document_obeys : (s : ProjectState) (doc : ℕ) → LayersObey s → DocumentObeys s.conf (document s doc)
 document_obeys s doc all = all_or (DocumentObeys s.conf) s.documents doc no_document all (none_all (RowObeys s.conf 0))
 
-blank_obeys : (conf : Configuration) (characters : ℕ) → RowObeys conf characters blank_row
+pub blank_obeys : (conf : Configuration) (characters : ℕ) → RowObeys conf characters blank_row
 blank_obeys conf characters some = absurd (omega arith)
 
 row_obeys : (s : ProjectState) (doc : ℕ) (who : List ℕ) → LayersObey s → RowObeys s.conf (length (document s doc).text) (row s doc who)
@@ -60,15 +58,15 @@ freed_obey s all = All-map (DocumentObeys s.conf) freed s.documents (λ k d with
 new_obeys : (s : ProjectState) (name text : List ℕ) → DocumentObeys s.conf (new_document s name text)
 new_obeys s name text = All-replicate (RowObeys s.conf (length text)) (length (annotators s)) blank_row (blank_obeys s.conf (length text))
 
-or_first : {X : Type 0} (a b : Option X) → option_or a b ≡ None → a ≡ None
+pub or_first : {X : Type 0} (a b : Option X) → option_or a b ≡ None → a ≡ None
 or_first None b e = refl
 or_first (Some x) b e = e
 
-or_second : {X : Type 0} (a b : Option X) → option_or a b ≡ None → b ≡ None
+pub or_second : {X : Type 0} (a b : Option X) → option_or a b ≡ None → b ≡ None
 or_second None b e = e
 or_second (Some x) b e = cc
 
-map_none : {X Y : Type 0} (f : X → Y) (a : Option X) → option_map f a ≡ None → a ≡ None
+pub map_none : {X Y : Type 0} (f : X → Y) (a : Option X) → option_map f a ≡ None → a ≡ None
 map_none f None e = refl
 map_none f (Some x) e = cc
 
@@ -80,7 +78,7 @@ rule_obeys conf characters layer flawless e = record {
 }
 
 -- a commit that is not refused brings a layer that obeys
-commit_obeys : (s : ProjectState) (caller name : List ℕ) (hold : ℕ) (layer : Annotations) → Flawless → refusal s caller (Commit name hold layer) ≡ None → Obeys s.conf (size_of s name) layer
+pub commit_obeys : (s : ProjectState) (caller name : List ℕ) (hold : ℕ) (layer : Annotations) → Flawless → refusal s caller (Commit name hold layer) ≡ None → Obeys s.conf (size_of s name) layer
 commit_obeys s caller name hold layer flawless e =
     rule_obeys s.conf (size_of s name) layer flawless
     (map_none no.Broken (commit_rule s.conf (size_of s name) layer)
@@ -90,10 +88,10 @@ commit_obeys s caller name hold layer flawless e =
     (or_second (policies s caller (Commit name hold layer)) _
     (or_second (when (not (is_annotator s caller || is_curator s caller)) (no.NotAllowed policy.Roster)) _ e))))))
 
-some_same : (a b : Happened) → Some a ≡ Some b → a ≡ b
+pub some_same : (a b : Happened) → Some a ≡ Some b → a ≡ b
 some_same a b e = cc
 
-none_some : (x : Happened) → None ≡ Some x → ⊥
+pub none_some : (x : Happened) → None ≡ Some x → ⊥
 none_some x e = cc
 
 -- what a request makes happen where it is not refused keeps committed layers obeying
@@ -123,7 +121,7 @@ change_obeys s caller (Readmit name who) e place flawless all free is =
     subst (λ h. LayersObey (effect place h s)) (some_same (LayerReadmitted caller (number_of s name) who) e is) (set_obeys s (number_of s name) who (with_ignored false) all (row_obeys s (number_of s name) who all))
 
 sound_obeys : (s : ProjectState) → IsSound s → LayersObey s
-sound_obeys s sound k d within j r inside = ((sound.documents k d within).sound j r inside).obeys
+sound_obeys s sound k d within j r inside = ((sound.kept.documents k d within).rows_kept j r inside).obeys
 
 -- committed layers obey behind each history
 pub legal_obeys : (log : List Happened) → Flawless → IsLegal log → LayersObey (after log)

@@ -1,5 +1,5 @@
 -- The history of a project: what happened in turn, at places that count from 1, or go on from the place of a state that was restored.
-use Rattle.std.specs.Prelude.{◌≡◌, ℕ, ◌+◌, ◌-◌, ◌<◌, ◌≤◌, ◌^◌, Bool, true, false, List, [], ◌∷◌, ◌++◌, ◌≢◌, length, map, sum, take, Option, Some, None}
+use Rattle.std.specs.Prelude.{◌≡◌, ℕ, ◌+◌, ◌-◌, ◌<◌, ◌≤◌, ◌^◌, Bool, true, false, List, [], ◌∷◌, ◌++◌, ◌≢◌, length, get_or, map, sum, take, Option, Some, None}
 use Rattle.std.specs.List.{All}
 use Rattle.entry_bytes.specs.declared.person.Person.{Person}
 use Rattle.annotation_conf.specs.Configurations.{Configuration}
@@ -8,7 +8,7 @@ use Rattle.layer_core.specs.declared.command.Command.{Command}
 use Rattle.layer_core.specs.WellFormed.{Obeys}
 use Rattle.layer_undo.specs.Replays.{first_refusal}
 use Rattle.project_book.specs.People.{IsRoster}
-use Rattle.project_book.specs.ProjectState.{Row, Document, ProjectState, annotators, document, row, set_row, new_document, is_some_out}
+use Rattle.project_book.specs.ProjectState.{Row, Document, ProjectState, annotators, row, set_row, new_document, is_some_out}
 use Rattle.project_book.specs.Requests.{Asked, Happened, Founded, TextAdded, CheckedOut, TakenOver, LayerCommitted, LayerParked, LayerFinished, LayerReopened, LayerIgnored, LayerReadmitted, AllFreed, Restored}
 use Rattle.project_book.specs.Machine.{step}
 
@@ -102,29 +102,41 @@ DocumentObeys conf d = All (RowObeys conf (length d.text)) d.rows
 abbrev pub LayersObey : ProjectState → Type 0
 LayersObey s = All (DocumentObeys s.conf) s.documents
 
--- a row as it can be restored: its layer obeys, its scripts are not refused from it, it is not out, and nothing is set where nothing was committed
-pub record IsRowSound (conf : Configuration) (characters place : ℕ) (r : Row) : Type 0 where
+-- a row as steps leave it: its layer obeys, its scripts are not refused from it, its commits are not above the place, and nothing is set where nothing was committed
+pub record IsRowKept (conf : Configuration) (characters place : ℕ) (r : Row) : Type 0 where
   pub obeys : RowObeys conf characters r
   pub accepted : first_refusal conf characters r.layer r.done r.undone ≡ None
-  pub free : r.hold ≡ None
   pub counted : r.revision ≤ place
   pub layer : r.revision ≡ 0 → r.layer ≡ no_marks
   pub finished : r.revision ≡ 0 → r.finished ≡ false
   pub ignored : r.revision ≡ 0 → r.ignored ≡ false
 
--- a document as it can be restored: a short text, and a sound row for each annotator
-pub record IsDocumentSound (s : ProjectState) (d : Document) : Type 0 where
-  pub short : length d.text ≤ 200000
-  pub rows_are : length d.rows ≡ length (annotators s)
-  pub sound : All (IsRowSound s.conf (length d.text) s.place) d.rows
+-- a document as steps leave it: a row for each of so many annotators, each as steps leave it
+pub record IsDocumentKept (conf : Configuration) (raters place : ℕ) (d : Document) : Type 0 where
+  pub rows_are : length d.rows ≡ raters
+  pub rows_kept : All (IsRowKept conf (length d.text) place) d.rows
 
--- a project as it can be restored
-pub record IsSound (s : ProjectState) : Type 0 where
+-- names that differ
+abbrev pub NamesDiffer : List (List ℕ) → Type 0
+NamesDiffer names = (i j : ℕ) → i < j → j < length names → get_or names i [] ≢ get_or names j []
+
+-- a project as steps leave it: the people of a roster, and few documents of different names and few characters
+pub record IsKept (s : ProjectState) : Type 0 where
   pub people : IsRoster s.people
   pub few : length s.documents ≤ 4096
-  pub short : sum (map (λ d. length d.text) s.documents) ≤ 16777216
-  pub names_differ : (i j : ℕ) → i < j → j < length s.documents → (document s i).name ≢ (document s j).name
-  pub documents : All (IsDocumentSound s) s.documents
+  pub total : sum (map (λ d. length d.text) s.documents) ≤ 16777216
+  pub names : NamesDiffer (map (λ d. d.name) s.documents)
+  pub documents : All (IsDocumentKept s.conf (length (annotators s)) s.place) s.documents
+
+-- no text of a project is longer than a document's may be
+abbrev pub HasShortTexts : ProjectState → Type 0
+HasShortTexts s = All (λ d. length d.text ≤ 200000) s.documents
+
+-- a project as it can be restored: as steps leave it, with short texts, no layer out, and a place within the limit
+pub record IsSound (s : ProjectState) : Type 0 where
+  pub kept : IsKept s
+  pub short : HasShortTexts s
+  pub free : is_some_out s ≡ false
   pub placed : 0 < s.place
   pub low : s.place ≤ 2 ^ 62
 

@@ -1,5 +1,5 @@
 -- A project at one place of its history.
-use Rattle.std.specs.Prelude.{ℕ, ◌+◌, Bool, false, not, List, [], length, get_or, set, map, replicate, bytes_eq, Option, None, is_some}
+use Rattle.std.specs.Prelude.{ℕ, Bool, false, not, List, [], length, get_or, set, map, replicate, bytes_eq, Option, None, is_some}
 use Rattle.std.specs.List.{filter, list_any, position_or_len}
 use Rattle.entry_bytes.specs.declared.person.Person.{Person}
 use Rattle.annotation_conf.specs.Configurations.{Configuration}

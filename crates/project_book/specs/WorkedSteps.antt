@@ -1,5 +1,5 @@
 -- A history of one document and two annotators, for worked examples.
-use Rattle.std.specs.Prelude.{ℕ, List, [], ◌∷◌, Option, Some, None, true, false, codes}
+use Rattle.std.specs.Prelude.{ℕ, List, [], ◌∷◌, Some, None, true, false, codes}
 use Rattle.entry_bytes.specs.declared.person.Person.{Person}
 use Rattle.layer_model.specs.Annotations.{no_marks}
 use Rattle.project_book.specs.declared.book_refusal.BookRefusal.{BookRefusal}

@@ -1,8 +1,9 @@
 //! Laws of histories. Each function but for a call of a law below does nothing; its contract is the law.
-ghost use Rattle.std.specs.Prelude.{◌≡◌, ℕ, ◌<◌, ◌≤◌, List, [], ◌∷◌, ◌++◌, Some};
+ghost use Rattle.std.specs.Prelude.{◌≡◌, ℕ, ◌<◌, ◌≤◌, ◌^◌, List, [], ◌∷◌, ◌++◌, Some, false};
 ghost use Rattle.project_book.specs.Machine.{step};
 ghost use Rattle.project_book.specs.Requests.{Asked, Happened};
-ghost use Rattle.project_book.specs.History.{IsLegal, LayersObey, after, begin, last, upto};
+ghost use Rattle.project_book.specs.History.{HasShortTexts, IsKept, IsLegal, IsSound, LayersObey, after, begin, last, upto};
+ghost use Rattle.project_book.specs.ProjectState.{is_some_out};
 
 use layer_core::unflawed_layers;
 
@@ -18,6 +19,15 @@ pub fn histories_go_on()
 /// has as many arguments of each role as the role asks.
 pub fn committed_layers_obey()
     ensures { (log : List Happened) (place : ℕ) → IsLegal log → begin log < place → LayersObey (after (upto place log)) }
+{
+    unflawed_layers();
+}
+
+/// The state behind a history keeps the limits and the tests of the machine, so it can be restored wherever no
+/// layer is out: it begins a history of its own.
+pub fn states_can_be_restored()
+    ensures kept { (log : List Happened) → IsLegal log → IsKept (after log) }
+    ensures restored { (log : List Happened) → IsLegal log → is_some_out (after log) ≡ false → HasShortTexts (after log) → (after log).place ≤ 2 ^ 62 → IsSound (after log) }
 {
     unflawed_layers();
 }

@@ -1,4 +1,4 @@
-use Rattle.std.proofs.Common.{ℕ, ◌-◌, ◌<◌, arith}
+use Rattle.std.proofs.Common.{◌-◌, arith}
 use Rattle.project_book.specs.History.{begin, upto}
 use Rattle.project_book.proofs.HistoryLemmas.{front_legal}
 use Rattle.project_book.proofs.ObeyLemmas.{legal_obeys}

@@ -1,4 +1,4 @@
-use Rattle.std.proofs.Common.{ℕ, ◌-◌, ◌<◌, arith}
+use Rattle.std.proofs.Common.{◌-◌, arith}
 use Rattle.project_book.specs.History.{begin, legal_step}
 use Rattle.project_book.proofs.HistoryLemmas.{front_legal, place_last}
 use Rattle.project_book.proofs.laws.histories_go_on.Goals as goal

@@ -1,9 +1,8 @@
-use Rattle.std.proofs.Common.{[], None, Some, ap, refl}
+use Rattle.std.proofs.Common.{None, Some, ap, refl}
 use Rattle.std.specs.Prelude.{codes}
 use Rattle.std.specs.Option.{option_map, option_or}
 use Rattle.char_documents.specs.Tokens.{tokens_of}
 use Rattle.layer_model.specs.Annotations.{no_marks}
-use Rattle.layer_model.specs.declared.rule.Rule.{Rule}
 use Rattle.project_book.specs.declared.book_refusal.BookRefusal.TheVariants as no
 use Rattle.project_book.specs.Requests.{Committed, LayerCommitted}
 use Rattle.project_book.specs.History.{unfounded}
