@@ -2,4 +2,5 @@ mod EmptyLemmas
 mod HistoryLemmas
 mod KeptLemmas
 mod ObeyLemmas
+mod OwnLemmas
 mod RosterLemmas

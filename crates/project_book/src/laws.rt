@@ -1,9 +1,9 @@
 //! Laws of histories. Each function but for a call of a law below does nothing; its contract is the law.
-ghost use Rattle.std.specs.Prelude.{◌≡◌, ℕ, ◌<◌, ◌≤◌, ◌^◌, List, [], ◌∷◌, ◌++◌, Some, false};
+ghost use Rattle.std.specs.Prelude.{◌≡◌, ◌≢◌, ℕ, ◌<◌, ◌≤◌, ◌^◌, List, [], ◌∷◌, ◌++◌, Some, false};
 ghost use Rattle.project_book.specs.Machine.{step};
 ghost use Rattle.project_book.specs.Requests.{Asked, Happened};
-ghost use Rattle.project_book.specs.History.{HasShortTexts, IsKept, IsLegal, IsSound, LayersObey, after, begin, last, upto};
-ghost use Rattle.project_book.specs.ProjectState.{is_some_out};
+ghost use Rattle.project_book.specs.History.{HasShortTexts, IsKept, IsLegal, IsSound, LayersObey, after, begin, effect, last, upto};
+ghost use Rattle.project_book.specs.ProjectState.{ProjectState, is_curator, is_some_out, row};
 
 use layer_core::unflawed_layers;
 
@@ -13,6 +13,11 @@ pub fn histories_go_on()
     ensures step { (log : List Happened) (caller : List ℕ) (asked : Asked) (happened : Happened) → IsLegal log → (step (after log) caller asked).change ≡ Some happened → IsLegal (log ++ happened ∷ []) }
     ensures upto { (log : List Happened) (place : ℕ) → IsLegal log → begin log < place → IsLegal (upto place log) }
     ensures place { (log : List Happened) → IsLegal log → (after log).place ≡ last log }
+{}
+
+/// What one who is no curator makes happen leaves the rows of everyone else as they were, on every document.
+pub fn annotators_change_their_own_rows()
+    ensures { (s : ProjectState) (caller who : List ℕ) (asked : Asked) (happened : Happened) (place doc : ℕ) → is_curator s caller ≡ false → (step s caller asked).change ≡ Some happened → who ≢ caller → row (effect place happened s) doc who ≡ row s doc who }
 {}
 
 /// At every place of a history each committed layer obeys the configuration: it is well-formed, and each event

@@ -25,7 +25,10 @@ mod worked_steps;
 
 pub use crate::book_refusal::{BookRefusal, Policy};
 pub use crate::doc_line::DocLine;
-pub use crate::laws::{committed_layers_obey, histories_go_on, states_can_be_restored};
+pub use crate::laws::{
+    annotators_change_their_own_rows, committed_layers_obey, histories_go_on,
+    states_can_be_restored,
+};
 pub use crate::roster::Roster;
 pub use crate::roster_fault::RosterFault;
 pub use crate::worked_steps::{examples_of_histories, examples_of_steps};
