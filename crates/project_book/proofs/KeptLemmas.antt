@@ -1,5 +1,5 @@
 -- What steps keep of a project.
-use Rattle.std.proofs.Common.{◌≡◌, ◌≢◌, ℕ, ◌+◌, ◌<◌, ◌≤◌, ◌==◌, ◌||◌, Bool, true, false, not, List, [], ◌∷◌, ◌++◌, length, map, sum, get_or, bytes_eq, nat_lt, nat_le, Option, Some, None, zero, suc, refl, sym, ◌∙◌, ap, subst, arith, inl, inr, is_some, length-append}
+use Rattle.std.proofs.Common.{◌≡◌, ◌≢◌, ℕ, ◌+◌, ◌<◌, ◌≤◌, ◌==◌, ◌||◌, Bool, true, false, not, List, [], ◌∷◌, ◌++◌, length, map, sum, get_or, bytes_eq, nat_lt, nat_le, Option, Some, None, IfSome, zero, suc, refl, sym, ◌∙◌, ap, subst, arith, inl, inr, is_some, length-append}
 use Rattle.std.specs.List.{All, list_any}
 use Rattle.std.specs.Option.{option_map, option_or}
 use Rattle.std.proofs.lemmas.List.{get_or_append_left, get_or_past, length-map, length-replicate, length-set, map-append, set_past}
@@ -31,12 +31,16 @@ some_none r e = cc
 false_true : false ≡ true → ⊥
 false_true e = cc
 
+hold_later : (hold : Option ℕ) (low high : ℕ) → low ≤ high → IfSome hold (λ n. n ≤ low) → IfSome hold (λ n. n ≤ high)
+hold_later None low high h is = tt
+hold_later (Some n) low high h is = omega arith
+
 -- a row at a later place
 row_later : (conf : Configuration) (characters low high : ℕ) (r : Row) → low ≤ high → IsRowKept conf characters low r → IsRowKept conf characters high r
-row_later conf characters low high r h k = record { obeys = k.obeys; accepted = k.accepted; counted = (let c : r.revision ≤ low = k.counted in omega arith); layer = k.layer; finished = k.finished; ignored = k.ignored }
+row_later conf characters low high r h k = record { obeys = k.obeys; accepted = k.accepted; counted = (let c : r.revision ≤ low = k.counted in omega arith); held = hold_later r.hold low high h k.held; layer = k.layer; finished = k.finished; ignored = k.ignored }
 
 blank_kept : (conf : Configuration) (characters place : ℕ) → IsRowKept conf characters place blank_row
-blank_kept conf characters place = record { obeys = blank_obeys conf characters; accepted = refl; counted = omega arith; layer = λ _. refl; finished = λ _. refl; ignored = λ _. refl }
+blank_kept conf characters place = record { obeys = blank_obeys conf characters; accepted = refl; counted = omega arith; held = tt; layer = λ _. refl; finished = λ _. refl; ignored = λ _. refl }
 
 -- a project at another place
 abbrev at : ProjectState → ℕ → ProjectState
@@ -91,8 +95,8 @@ set_kept s doc place who changed h k here = record {
   documents = set_documents s doc place who changed h k here;
 }
 
-held_kept : (conf : Configuration) (characters place : ℕ) (hold : Option ℕ) (r : Row) → IsRowKept conf characters place r → IsRowKept conf characters place (under_hold hold r)
-held_kept conf characters place hold r k = record { obeys = k.obeys; accepted = k.accepted; counted = k.counted; layer = k.layer; finished = k.finished; ignored = k.ignored }
+held_kept : (conf : Configuration) (characters place : ℕ) (hold : Option ℕ) (r : Row) → IfSome hold (λ n. n ≤ place) → IsRowKept conf characters place r → IsRowKept conf characters place (under_hold hold r)
+held_kept conf characters place hold r is k = record { obeys = k.obeys; accepted = k.accepted; counted = k.counted; held = is; layer = k.layer; finished = k.finished; ignored = k.ignored }
 
 -- where nothing is 0, what follows from 0 does
 committed_kept : (conf : Configuration) (characters low high : ℕ) (layer : Annotations) (r : Row) → low + 1 ≤ high → Obeys conf characters layer → IsRowKept conf characters low r → IsRowKept conf characters high (with_commit layer r)
@@ -102,19 +106,20 @@ committed_kept conf characters low high layer r h obeys k =
       obeys = λ _. obeys;
       accepted = refl;
       counted = omega arith;
+      held = hold_later r.hold low high (omega arith) k.held;
       layer = λ (e : r.revision + 1 ≡ 0). absurd (omega arith);
       finished = λ (e : r.revision + 1 ≡ 0). absurd (omega arith);
       ignored = λ (e : r.revision + 1 ≡ 0). absurd (omega arith);
     }
 
 parked_kept : (conf : Configuration) (characters place : ℕ) (done undone : List Command) (r : Row) → first_refusal conf characters r.layer done undone ≡ None → IsRowKept conf characters place r → IsRowKept conf characters place (with_draft done undone r)
-parked_kept conf characters place done undone r free k = record { obeys = k.obeys; accepted = free; counted = k.counted; layer = k.layer; finished = k.finished; ignored = k.ignored }
+parked_kept conf characters place done undone r free k = record { obeys = k.obeys; accepted = free; counted = k.counted; held = tt; layer = k.layer; finished = k.finished; ignored = k.ignored }
 
 finished_kept : (conf : Configuration) (characters place : ℕ) (b : Bool) (r : Row) → (r.revision ≡ 0 → b ≡ false) → IsRowKept conf characters place r → IsRowKept conf characters place (with_finished b r)
-finished_kept conf characters place b r is k = record { obeys = k.obeys; accepted = k.accepted; counted = k.counted; layer = k.layer; finished = is; ignored = k.ignored }
+finished_kept conf characters place b r is k = record { obeys = k.obeys; accepted = k.accepted; counted = k.counted; held = k.held; layer = k.layer; finished = is; ignored = k.ignored }
 
 ignored_kept : (conf : Configuration) (characters place : ℕ) (b : Bool) (r : Row) → (r.revision ≡ 0 → b ≡ false) → IsRowKept conf characters place r → IsRowKept conf characters place (with_ignored b r)
-ignored_kept conf characters place b r is k = record { obeys = k.obeys; accepted = k.accepted; counted = k.counted; layer = k.layer; finished = k.finished; ignored = is }
+ignored_kept conf characters place b r is k = record { obeys = k.obeys; accepted = k.accepted; counted = k.counted; held = k.held; layer = k.layer; finished = k.finished; ignored = is }
 
 when_none : (b : Bool) (r : BookRefusal) → when b r ≡ None → b ≡ false
 when_none true r e = absurd (some_none r e)
@@ -215,7 +220,7 @@ add_kept s caller name text place h k free =
 document_freed : (s : ProjectState) (place : ℕ) (d : Document) → IsDocumentKept s.conf (length (annotators s)) place d → IsDocumentKept s.conf (length (annotators s)) place (freed d)
 document_freed s place d k = record {
   rows_are = length-map d.rows (under_hold None) ∙ k.rows_are;
-  rows_kept = All-map (IsRowKept s.conf (length d.text) place) (under_hold None) d.rows (λ i r within. held_kept s.conf (length d.text) place None (get_or d.rows i r) (k.rows_kept i r within));
+  rows_kept = All-map (IsRowKept s.conf (length d.text) place) (under_hold None) d.rows (λ i r within. held_kept s.conf (length d.text) place None (get_or d.rows i r) tt (k.rows_kept i r within));
 }
 
 -- all layers are freed
@@ -238,10 +243,10 @@ change_kept s caller (AddText name text) e place flawless h k free is =
     subst (λ x. IsKept (effect place x s)) (some_same (TextAdded caller name text) e is) (add_kept s caller name text place (omega arith) k free)
 change_kept s caller (Checkout name) e place flawless h k free is =
     subst (λ x. IsKept (effect place x s)) (some_same (CheckedOut caller (number_of s name)) e is)
-    (set_kept s (number_of s name) place caller (under_hold (Some place)) (omega arith) k (held_kept s.conf (size_of s name) place (Some place) (row_in s name caller) (later_row s (number_of s name) caller place (omega arith) k)))
+    (set_kept s (number_of s name) place caller (under_hold (Some place)) (omega arith) k (held_kept s.conf (size_of s name) place (Some place) (row_in s name caller) (omega arith) (later_row s (number_of s name) caller place (omega arith) k)))
 change_kept s caller (TakeOver name) e place flawless h k free is =
     subst (λ x. IsKept (effect place x s)) (some_same (TakenOver caller (number_of s name)) e is)
-    (set_kept s (number_of s name) place caller (under_hold (Some place)) (omega arith) k (held_kept s.conf (size_of s name) place (Some place) (row_in s name caller) (later_row s (number_of s name) caller place (omega arith) k)))
+    (set_kept s (number_of s name) place caller (under_hold (Some place)) (omega arith) k (held_kept s.conf (size_of s name) place (Some place) (row_in s name caller) (omega arith) (later_row s (number_of s name) caller place (omega arith) k)))
 change_kept s caller (Commit name hold layer) e place flawless h k free is =
     subst (λ x. IsKept (effect place x s)) (some_same (LayerCommitted caller (number_of s name) hold layer) e is)
     (set_kept s (number_of s name) place caller (with_commit layer) (omega arith) k

@@ -1,5 +1,5 @@
 -- The history of a project: what happened in turn, at places that count from 1, or go on from the place of a state that was restored.
-use Rattle.std.specs.Prelude.{◌≡◌, ℕ, ◌+◌, ◌-◌, ◌<◌, ◌≤◌, ◌^◌, Bool, true, false, List, [], ◌∷◌, ◌++◌, ◌≢◌, length, get_or, map, sum, take, Option, Some, None}
+use Rattle.std.specs.Prelude.{◌≡◌, ℕ, ◌+◌, ◌-◌, ◌<◌, ◌≤◌, ◌^◌, Bool, true, false, List, [], ◌∷◌, ◌++◌, ◌≢◌, length, get_or, map, sum, take, Option, Some, None, IfSome}
 use Rattle.std.specs.List.{All}
 use Rattle.entry_bytes.specs.declared.person.Person.{Person}
 use Rattle.annotation_conf.specs.Configurations.{Configuration}
@@ -102,11 +102,12 @@ DocumentObeys conf d = All (RowObeys conf (length d.text)) d.rows
 abbrev pub LayersObey : ProjectState → Type 0
 LayersObey s = All (DocumentObeys s.conf) s.documents
 
--- a row as steps leave it: its layer obeys, its scripts are not refused from it, its commits are not above the place, and nothing is set where nothing was committed
+-- a row as steps leave it: its layer obeys, its scripts are not refused from it, its commits and its hold are not above the place, and nothing is set where nothing was committed
 pub record IsRowKept (conf : Configuration) (characters place : ℕ) (r : Row) : Type 0 where
   pub obeys : RowObeys conf characters r
   pub accepted : first_refusal conf characters r.layer r.done r.undone ≡ None
   pub counted : r.revision ≤ place
+  pub held : IfSome r.hold (λ hold. hold ≤ place)
   pub layer : r.revision ≡ 0 → r.layer ≡ no_marks
   pub finished : r.revision ≡ 0 → r.finished ≡ false
   pub ignored : r.revision ≡ 0 → r.ignored ≡ false

@@ -28,8 +28,9 @@ pub fn committed_layers_obey()
     unflawed_layers();
 }
 
-/// The state behind a history keeps the limits and the tests of the machine, so it can be restored wherever no
-/// layer is out: it begins a history of its own.
+/// The state behind a history keeps the limits and the tests of the machine, and no hold in it is above its place:
+/// the hold of the next checkout is a new one. It can be restored wherever no layer is out, and so begins a
+/// history of its own.
 pub fn states_can_be_restored()
     ensures kept { (log : List Happened) → IsLegal log → IsKept (after log) }
     ensures restored { (log : List Happened) → IsLegal log → is_some_out (after log) ≡ false → HasShortTexts (after log) → (after log).place ≤ 2 ^ 62 → IsSound (after log) }
