@@ -5,8 +5,8 @@ use Rattle.std.specs.Str.{is_utf8}
 use Rattle.mark_base.specs.Names.{slug_fault}
 use Rattle.entry_bytes.specs.declared.person.Person.{Person}
 
--- two fields, one behind the other
 infixl 10 ◌&◌
+-- two fields, one behind the other
 abbrev pub ◌&◌ : {A B : Type 0} → (List ℕ → Option (A × List ℕ)) → (List ℕ → Option (B × List ℕ)) → List ℕ → Option ((A × B) × List ℕ)
 (first & second) bytes = option_and_then (λ x. option_map (λ y. ((x.0, y.0), y.1)) (second x.1)) (first bytes)
 
