@@ -1,4 +1,4 @@
--- At which byte of a text's UTF-8 a character begins.
+-- At which byte of a text's UTF-8 a character begins (private calls only).
 use Rattle.std.specs.Prelude.{◌≡◌, ℕ, ◌*◌, ◌/◌, ◌+◌, ◌<◌, List, length, chars, take, encode_utf8_all, slice_index}
 
 -- the byte at which the character of an index begins, or the end where the text has as many characters

@@ -1,4 +1,4 @@
--- What a document keeps beside its text.
+-- What a document keeps beside its text (private calls only).
 use Rattle.std.specs.Prelude.{◌≡◌, ℕ, ◌≤◌, List, length, chars}
 use Rattle.mark_base.specs.declared.fragments.Frag.{Frag}
 use Rattle.char_documents.specs.Checkpoints.{IsMarked}

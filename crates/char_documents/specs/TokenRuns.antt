@@ -1,4 +1,4 @@
--- A run of characters while it is read.
+-- A run of characters while it is read (private calls only).
 use Rattle.std.specs.Prelude.{ℕ, List, [], ◌∷◌, Option, Some, None}
 use Rattle.mark_base.specs.declared.fragments.Frag.{Frag}
 use Rattle.char_documents.specs.Tokens.{join_run}

@@ -14,8 +14,7 @@
 
 mod checkpoints;
 mod doc;
-#[cfg(test)]
-mod tests;
+mod shared;
 mod tokens;
 
 pub use crate::doc::{Doc, DocFault, RefFault};

@@ -90,7 +90,7 @@ Ascends-filter test (x ∷ xs) up =
       | false ↦ Ascends-filter test xs up.1
     ]
 
-has_rank-filter : (test : AnnId → Bool) (ids : List AnnId) (place : ℕ) → has_rank place (filter test ids) ≡ true → has_rank place ids ≡ true
+pub has_rank-filter : (test : AnnId → Bool) (ids : List AnnId) (place : ℕ) → has_rank place (filter test ids) ≡ true → has_rank place ids ≡ true
 has_rank-filter test [] place h = h
 has_rank-filter test (x ∷ xs) place h =
     elim (test x) as (λ b. has_rank place (cond b (x ∷ filter test xs) (filter test xs)) ≡ true → ((rank x == place) || has_rank place xs) ≡ true) [

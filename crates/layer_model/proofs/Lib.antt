@@ -1,4 +1,5 @@
 pub mod Chains
+pub mod ClassGone
 pub mod ClassJoin
 pub mod ClassOrder
 pub mod ClassPart

@@ -24,8 +24,8 @@ pub fn rank(id: AnnId) -> u64
 }
 
 /// IDs in ascending order, each once.
-#[derive(Drop)]
-pub(crate) struct IdSet {
+#[derive(Debug, Drop)]
+pub struct IdSet {
     ids: BTreeMap<u64, AnnId>,
 }
 
@@ -61,7 +61,7 @@ impl IdSet {
     }
 
     /// These IDs. Cost: their number, times the logarithm of it.
-    pub(crate) fn of(alloc: Global, ids: &[AnnId]) -> Result<Self, Memory>
+    pub fn of(alloc: Global, ids: &[AnnId]) -> Result<Self, Memory>
         ensures { IfOk result (λ set. set ≡ ascending ids.now) }
     {
         let mut set = IdSet::new(alloc);
@@ -72,7 +72,7 @@ impl IdSet {
     }
 
     /// Whether the ID is one of these. Cost: the logarithm of their number.
-    pub(crate) fn has(&self, id: AnnId) -> bool
+    pub fn has(&self, id: AnnId) -> bool
         ensures { result ≡ is_among id self.now }
     {
         self.ids.contains_key(&rank(id))

@@ -33,16 +33,15 @@ mod note;
 mod numbered;
 mod relation;
 mod rule;
+mod shared;
 mod snapshot;
 mod span;
-#[cfg(test)]
-mod tests;
 
 pub use crate::attribute::Attribute;
 pub use crate::class::Class;
 pub use crate::event::Event;
 pub use crate::flaw::{Flaw, FlawPlace};
-pub use crate::id_set::rank;
+pub use crate::id_set::{IdSet, rank};
 pub use crate::laws::{
     circles_are_too_deep, last_class_is_appended, nothing_is_coherent, numbers_above_are_free,
     shorter_chains_begin, take_undoes_put,

@@ -16,13 +16,19 @@ pub struct Span {
 pub fn same_fragments(a: &[Frag], b: &[Frag]) -> bool
     ensures { result ≡ same_fragments a.now b.now }
 {
-    match a {
-        [] => b.is_empty(),
-        [first, rest @ ..] => match b {
-            [] => false,
+    let mut left = a;
+    let mut right = b;
+    while let Some((first, rest)) = left.split_first() {
+        match right {
+            [] => return false,
             [other, others @ ..] => {
-                first.start == other.start && first.end == other.end && same_fragments(rest, others)
+                if first.start != other.start || first.end != other.end {
+                    return false;
+                }
+                left = rest;
+                right = others;
             }
-        },
+        }
     }
+    right.is_empty()
 }

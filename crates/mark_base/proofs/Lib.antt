@@ -1,4 +1,5 @@
 mod FailListLemmas
+pub mod FaultLemmas
 pub mod IdLemmas
 mod NameLemmas
 pub mod NumberLemmas

@@ -1,15 +1,22 @@
 -- What a read and a write do to the bytes of a stream, and when a fault is answered.
-use Rattle.std.specs.Prelude.{◌≡◌, ℕ, ◌+◌, ◌-◌, ◌^◌, ◌≤◌, min, List, length, take, Option, Result, OnErr}
+use Rattle.std.specs.Prelude.{◌≡◌, ℕ, ◌+◌, ◌-◌, ◌^◌, ◌≤◌, min, List, length, take, Option, Result, OnOk, OnErr}
 use Rattle.std.specs.Io.KnownBytes.{Appends}
 
 -- a count rose, or stands at the last value of its type
 abbrev pub Rose : ℕ → ℕ → Type 0
 Rose before now = min (before + 1) (2 ^ 64 - 1) ≤ now
 
--- a count of faults did not fall, and an error comes only where it rose
+-- A count of faults did not fall. An error comes only where it rose, and a success only where it stands as before:
+-- no call that failed was made again. At the type's last value the count cannot tell.
 pub record HasCause {T E : Type 0} (before now : ℕ) (result : Result T E) : Type 0 where
   pub later : before ≤ now
   pub failed : OnErr result (Rose before now)
+  pub still : OnOk result (now ≡ before)
+
+-- the same of an ending that may be a fault: where it is one the count rose, and otherwise it stands as before
+pub record TellsFault (fault : Type 0) (before now : ℕ) : Type 0 where
+  pub rose : fault → Rose before now
+  pub still : (fault → ⊥) → now ≡ before
 
 -- a sink took a front of the piece and no more
 pub record AppendsFront (old new : Option (List ℕ)) (piece : List ℕ) : Type 0 where

@@ -5,8 +5,8 @@
 //! fault that the caller is told, and what is read compares by its bytes or its number.
 //!
 //! Of the streams the main types are [`Source`], which gives bytes, [`Sink`], which takes them, and [`Link`], which
-//! does both. Each counts its faults, and answers `Failed` only where that count rose. A stream in
-//! memory tells the bytes that it holds, so a contract can speak of them:
+//! does both. Each counts its faults, and answers `Failed` only where that count rose, and `Ok` only where
+//! it stands as before. A stream in memory tells the bytes that it holds, so a contract can speak of them:
 //!
 //! ```text
 //! let mut sink = MemorySink::new(alloc, fails);
@@ -37,8 +37,6 @@ mod slug;
 mod slug_list;
 mod source;
 mod steps;
-#[cfg(test)]
-mod tests;
 mod text;
 
 pub use crate::ann_id::{AnnId, Kind};

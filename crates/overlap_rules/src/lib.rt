@@ -20,8 +20,6 @@
 mod order;
 mod overlap;
 mod span_index;
-#[cfg(test)]
-mod tests;
 
 pub use crate::order::{are_ascending, reach};
 pub use crate::overlap::kind_of;

@@ -1,4 +1,4 @@
--- What a tree of types keeps beside its rows.
+-- What a tree of types keeps beside its rows (private calls only).
 use Rattle.std.specs.Prelude.{◌≡◌, ℕ, ◌<◌, ◌≤◌, List, length, Some, None}
 use Rattle.std.specs.List.{position_from}
 use Rattle.std.specs.BTreeMap.{BTreeMap, get}

@@ -10,8 +10,7 @@
 //! ```
 #![tactic(auto)]
 
-#[cfg(test)]
-mod tests;
+mod shared;
 mod tree;
 mod type_row;
 mod types_fault;

@@ -6,7 +6,7 @@ abbrev pub invariant-loop-done : goal.invariant-loop-done
 invariant-loop-done g l = record {
   in_range : l.done ≤ length l.piece;
   written : Appends (g.K.Sink.held l.fn.sink) (g.K.Sink.held l.sink) (take l.done l.piece);
-  later : g.K.Sink.write_faults l.fn.sink ≤ g.K.Sink.write_faults l.sink;
+  still : g.K.Sink.write_faults l.sink ≡ g.K.Sink.write_faults l.fn.sink;
   kept : g.K.Sink.kept_by_write l.sink ≡ g.K.Sink.kept_by_write l.fn.sink;
 }
 
