@@ -30,7 +30,7 @@ map_same f g (x ∷ xs) same = ap (λ y. y ∷ map f xs) (same x) ∙ ap (λ ys.
 
 -- rows do not rest on what follows a name
 strip : TypeLine → TypeLine
-strip line = record { number = line.number; depth = line.depth; spaced = line.spaced; usable = line.usable; name = line.name; pieces = [] }
+strip line = record { number = line.number; depth = line.depth; spaced = line.spaced; gapped = line.gapped; usable = line.usable; name = line.name; pieces = [] }
 
 last_strip : (depth place : ℕ) (lines : List TypeLine) → last_at depth place (map strip lines) ≡ last_at depth place lines
 unfolding strip
@@ -61,7 +61,7 @@ rows_strip first event before (line ∷ lines) =
     } ∷ xs) (rows_strip first event (before ++ line ∷ []) lines)
 
 bare_kept : KeptType → TypeLine
-bare_kept k = record { number = k.number; depth = k.depth; spaced = k.spaced; usable = k.usable; name = k.name; pieces = [] }
+bare_kept k = record { number = k.number; depth = k.depth; spaced = k.spaced; gapped = k.gapped; usable = k.usable; name = k.name; pieces = [] }
 
 bare_shown : (values : List TypeLineValue) (lines : List TypeLine) → map seen_type values ≡ map kept_type lines → map bare_type values ≡ map strip lines
 unfolding strip bare_kept

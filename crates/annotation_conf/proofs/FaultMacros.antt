@@ -10,7 +10,7 @@ use Rattle.std.proofs.lemmas.Option.{same_Some}
 use Rattle.annotation_conf.specs.declared.faults_macros.Kinds.{Kinds}
 use Rattle.annotation_conf.specs.ConfPairs.{Alternative, Named, Held}
 use Rattle.annotation_conf.specs.ConfNames.{File, MacroLine, Holding, all_held, one_held, both_held, none_held, macro_named, built_in}
-use Rattle.annotation_conf.specs.ConfFaults.{is_among, names_of, bound_names, of_named, is_unknown, is_unheld}
+use Rattle.annotation_conf.specs.ConfFaults.{is_among, names_of, bound_names, declared_names, is_unknown, is_unheld}
 use Rattle.annotation_conf.specs.NamesKnown.{is_called, place_among}
 use Rattle.annotation_conf.specs.declared.file.File.{File as FileValue}
 use Rattle.annotation_conf.specs.declared.file.MacroLine.{MacroLine as MacroLineValue}
@@ -28,28 +28,27 @@ or_assoc : (a b c : Bool) → (a || (b || c)) ≡ ((a || b) || c)
 or_assoc true b c = refl
 or_assoc false b c = refl
 
-kinds : Bool → Bool → Bool → Bool → Bool → Bool → Kinds
-kinds a b c d e f = record { entity = a; event = b; any = c; relation = d; no_type = e; nothing = f }
+kinds : Bool → Bool → Bool → Bool → Bool → Kinds
+kinds a b c d e = record { entity = a; event = b; any = c; relation = d; no_type = e }
 
-same_kinds : (a b c d e f a' b' c' d' e' f' : Bool) → a ≡ a' → b ≡ b' → c ≡ c' → d ≡ d' → e ≡ e' → f ≡ f' → kinds a b c d e f ≡ kinds a' b' c' d' e' f'
-same_kinds a b c d e f a' b' c' d' e' f' p q r s t u = cc
+same_kinds : (a b c d e a' b' c' d' e' : Bool) → a ≡ a' → b ≡ b' → c ≡ c' → d ≡ d' → e ≡ e' → kinds a b c d e ≡ kinds a' b' c' d' e'
+same_kinds a b c d e a' b' c' d' e' p q r s t = cc
 
 either_assoc : (x y z : Kinds) → either_kinds x (either_kinds y z) ≡ either_kinds (either_kinds x y) z
 unfolding kinds
 either_assoc x y z =
-    same_kinds _ _ _ _ _ _ _ _ _ _ _ _ (or_assoc x.entity y.entity z.entity) (or_assoc x.event y.event z.event) (or_assoc x.any y.any z.any)
-    (or_assoc x.relation y.relation z.relation) (or_assoc x.no_type y.no_type z.no_type) (or_assoc x.nothing y.nothing z.nothing)
+    same_kinds _ _ _ _ _ _ _ _ _ _ (or_assoc x.entity y.entity z.entity) (or_assoc x.event y.event z.event) (or_assoc x.any y.any z.any)
+    (or_assoc x.relation y.relation z.relation) (or_assoc x.no_type y.no_type z.no_type)
 
 kinds_of_both : (file : File) (a b : Holding) → kinds_of file (both_held a b) ≡ either_kinds (kinds_of file a) (kinds_of file b)
 unfolding kinds
 kinds_of_both file a b =
-    same_kinds _ _ _ _ _ _ _ _ _ _ _ _ refl refl refl refl
-    (list_any-append (λ name. not (is_among (names_of (bound_names file)) name)) a.names b.names)
-    (list_any-append (λ name. not (is_among (names_of (bound_names file ++ of_named file.relations)) name)) a.names b.names)
+    same_kinds _ _ _ _ _ _ _ _ _ _ refl refl refl refl
+    (list_any-append (λ name. is_among (declared_names file) name && not (is_among (names_of (bound_names file)) name)) a.names b.names)
 
 pub either_none : (x : Kinds) → either_kinds x no_kinds ≡ x
 unfolding kinds
-either_none x = same_kinds _ _ _ _ _ _ _ _ _ _ _ _ (or_false x.entity) (or_false x.event) (or_false x.any) (or_false x.relation) (or_false x.no_type) (or_false x.nothing)
+either_none x = same_kinds _ _ _ _ _ _ _ _ _ _ (or_false x.entity) (or_false x.event) (or_false x.any) (or_false x.relation) (or_false x.no_type)
 
 -- one alternative more
 pub kinds_push : (file : File) (macros : List MacroLine) (all : List Alternative) (one : Alternative)
@@ -246,26 +245,14 @@ kinds_push_unheld file count all i d before within so unheld =
 
 unknown_step : (file : File) (o : Option Holding)
     → option_map_or (λ (k : Kinds). k.no_type) (option_map (kinds_of file) o) false
-    ≡ option_map_or (λ holding. list_any (λ held. not (is_among (names_of (bound_names file)) held)) holding.names) o false
+    ≡ option_map_or (λ holding. list_any (λ held. is_among (declared_names file) held && not (is_among (names_of (bound_names file)) held)) holding.names) o false
 unknown_step file None = refl
 unknown_step file (Some h) = refl
 
--- a name that is among none is the only one of its list
-pub unknown_by : (file : File) (count : ℕ) (one : Alternative)
-    → option_map_or (λ (k : Kinds). k.no_type) (kinds_by file count one) false ≡ is_unknown (take count file.macros) (names_of (bound_names file)) one
-unknown_by file count (Named name) = or_false (not (is_among (names_of (bound_names file)) name))
-unknown_by file count (Held name) = unknown_step file (macro_named (take count file.macros) name)
-
-nothing_step : (file : File) (o : Option Holding)
-    → option_map_or (λ (k : Kinds). k.nothing) (option_map (kinds_of file) o) false
-    ≡ option_map_or (λ holding. list_any (λ held. not (is_among (names_of (bound_names file ++ of_named file.relations)) held)) holding.names) o false
-nothing_step file None = refl
-nothing_step file (Some h) = refl
-
-pub nothing_by : (file : File) (count : ℕ) (one : Alternative)
-    → option_map_or (λ (k : Kinds). k.nothing) (kinds_by file count one) false ≡ is_unknown (take count file.macros) (names_of (bound_names file ++ of_named file.relations)) one
-nothing_by file count (Named name) = or_false (not (is_among (names_of (bound_names file ++ of_named file.relations)) name))
-nothing_by file count (Held name) = nothing_step file (macro_named (take count file.macros) name)
+-- a macro holds a name that may not stand where its sorts say so
+pub unknown_by : (file : File) (count : ℕ) (name : List ℕ)
+    → option_map_or (λ (k : Kinds). k.no_type) (kinds_by file count (Held name)) false ≡ is_unknown (take count file.macros) (declared_names file) (names_of (bound_names file)) (Held name)
+unknown_by file count name = unknown_step file (macro_named (take count file.macros) name)
 
 unheld_by_step : (file : File) (relations : Bool) (o : Option Holding)
     → option_map_or (λ (k : Kinds). k.relation && not relations) (option_map (kinds_of file) o) true ≡ option_map_or (λ holding. holding.relation && not relations) o true

@@ -81,9 +81,7 @@ attribute_number line x e = content_number (λ (l : NamedLine). l.number) Attrib
 macro_fault_at : File → ℕ → Place → Kind → Option ConfWhat
 macro_fault_at file number place Skipped = None
 macro_fault_at file number place (Header section) = None
-macro_fault_at file number Before (Macro name cs) = macro_fault file number name (alternatives_of cs)
-macro_fault_at file number Nowhere (Macro name cs) = None
-macro_fault_at file number (Within section) (Macro name cs) = macro_fault file number name (alternatives_of cs)
+macro_fault_at file number place (Macro name cs) = macro_fault file number name (alternatives_of cs)
 macro_fault_at file number place (Content cs) = None
 
 -- the parts of the fault of a line
@@ -142,7 +140,7 @@ parts_at file number Before (Header (Some t)) finds = or_none (bare_at file numb
 parts_at file number Nowhere (Header (Some t)) finds = or_none (bare_at file number Nowhere (Header (Some t)))
 parts_at file number (Within s) (Header (Some t)) finds = or_none (bare_at file number (Within s) (Header (Some t)))
 parts_at file number Before (Macro name cs) finds = or_none (macro_fault file number name (alternatives_of cs))
-parts_at file number Nowhere (Macro name cs) finds = refl
+parts_at file number Nowhere (Macro name cs) finds = or_none (macro_fault file number name (alternatives_of cs))
 parts_at file number (Within s) (Macro name cs) finds = or_none (macro_fault file number name (alternatives_of cs))
 parts_at file number Before (Content cs) finds = refl
 parts_at file number Nowhere (Content cs) finds = refl
@@ -180,7 +178,7 @@ macro_step file before number Before (Header t) rest more same = same
 macro_step file before number Nowhere (Header t) rest more same = same
 macro_step file before number (Within s) (Header t) rest more same = same
 macro_step file before number Before (Macro name cs) rest more same = ap (option_or (option_map (λ w. record { line = number; what = w }) (macro_fault file number name (alternatives_of cs)))) same
-macro_step file before number Nowhere (Macro name cs) rest more same = same
+macro_step file before number Nowhere (Macro name cs) rest more same = ap (option_or (option_map (λ w. record { line = number; what = w }) (macro_fault file number name (alternatives_of cs)))) same
 macro_step file before number (Within s) (Macro name cs) rest more same = ap (option_or (option_map (λ w. record { line = number; what = w }) (macro_fault file number name (alternatives_of cs)))) same
 macro_step file before number Before (Content cs) rest more same = same
 macro_step file before number Nowhere (Content cs) rest more same = same
@@ -251,7 +249,7 @@ macro_at_rises before number Before (Header t) least rest le more = more least (
 macro_at_rises before number Nowhere (Header t) least rest le more = more least (omega arith)
 macro_at_rises before number (Within s) (Header t) least rest le more = more least (omega arith)
 macro_at_rises before number Before (Macro name cs) least rest le more = (le, more (number + 1) (omega arith))
-macro_at_rises before number Nowhere (Macro name cs) least rest le more = more least (omega arith)
+macro_at_rises before number Nowhere (Macro name cs) least rest le more = (le, more (number + 1) (omega arith))
 macro_at_rises before number (Within s) (Macro name cs) least rest le more = (le, more (number + 1) (omega arith))
 macro_at_rises before number Before (Content cs) least rest le more = more least (omega arith)
 macro_at_rises before number Nowhere (Content cs) least rest le more = more least (omega arith)
@@ -297,7 +295,7 @@ holds_one before number Before (Header t) rest more = subst (λ xs. HoldsFrom xs
 holds_one before number Nowhere (Header t) rest more = subst (λ xs. HoldsFrom xs rest) (append-nil before) more
 holds_one before number (Within s) (Header t) rest more = subst (λ xs. HoldsFrom xs rest) (append-nil before) more
 holds_one before number Before (Macro name cs) rest more = (refl, more)
-holds_one before number Nowhere (Macro name cs) rest more = subst (λ xs. HoldsFrom xs rest) (append-nil before) more
+holds_one before number Nowhere (Macro name cs) rest more = (refl, more)
 holds_one before number (Within s) (Macro name cs) rest more = (refl, more)
 holds_one before number Before (Content cs) rest more = subst (λ xs. HoldsFrom xs rest) (append-nil before) more
 holds_one before number Nowhere (Content cs) rest more = subst (λ xs. HoldsFrom xs rest) (append-nil before) more

@@ -5,16 +5,18 @@ use Rattle.std.specs.Option.{option_map_or}
 use Rattle.std.proofs.lemmas.List.{length-map}
 use Rattle.annotation_conf.specs.declared.conf_fault.ConfWhat.{ConfWhat}
 use Rattle.annotation_conf.specs.declared.conf_fault.ConfWhat.TheVariants.{BadIndent, BadName, NameTwice, BadCount, BadArgument, UnknownTypeNamed, UnknownMacro, TooManyTypes}
+use Rattle.annotation_conf.specs.declared.pieces.Alternative.{Alternative as AlternativeValue}
+use Rattle.annotation_conf.specs.declared.pieces.Alternative.TheVariants.{Named as NamedValue, Held as HeldValue}
 use Rattle.annotation_conf.specs.declared.pieces.RolePair.{RolePair as RolePairValue}
 use Rattle.annotation_conf.specs.declared.file.TypeLine.{TypeLine as TypeLineValue}
 use Rattle.annotation_conf.specs.declared.file.NamedLine.{NamedLine as NamedLineValue}
 use Rattle.annotation_conf.specs.declared.file.MacroLine.{MacroLine as MacroLineValue}
 use Rattle.annotation_conf.specs.ConfPairs.{Alternative, Piece, Shapeless, Keyed, Pair, count_of}
-use Rattle.annotation_conf.specs.ConfNames.{TypeLine, NamedLine, MacroLine, File, macro_named}
-use Rattle.annotation_conf.specs.ConfFaults.{RolePair, first_told, names_badly, values_badly, is_values, stands_twice, is_no_name, is_no_declared, word_of, is_unknown, is_unheld, names_of, bound_names, of_types, of_named, firsts, stood_before, are_past, is_binary, are_arguments, is_attribute, has_kinds, same_words, same_truth, first_line, is_too_deep, type_fault, relation_fault, overlap_fault, attribute_fault, macro_fault, pairs_of, is_shapeless, keyed_value, is_equivalence_line, agrees, line_before}
+use Rattle.annotation_conf.specs.ConfNames.{TypeLine, NamedLine, MacroLine, Holding, File, macro_named}
+use Rattle.annotation_conf.specs.ConfFaults.{RolePair, first_told, names_badly, values_badly, is_values, stands_twice, is_no_name, is_no_declared, word_of, is_among, is_unknown, is_unheld, names_of, bound_names, declared_names, kinds_lead, of_types, of_named, firsts, stood_before, are_past, is_binary, are_arguments, is_attribute, has_kinds, same_words, same_truth, first_line, is_too_deep, type_fault, relation_fault, overlap_fault, attribute_fault, macro_fault, pairs_of, is_shapeless, keyed_value, is_equivalence_line, agrees, line_before}
 use Rattle.annotation_conf.specs.FileKept.{KeyedPair, KeptType, KeptNamed, KeptMacro, kept_type, kept_named, kept_macro, keyed_of}
 use Rattle.annotation_conf.specs.FileShows.{seen_alternative, seen_pair, seen_keyed, seen_type, seen_named, seen_macro}
-use Rattle.annotation_conf.specs.FaultsTold.{too_deep, named_badly, marked_badly, names_no_type, unheld_in, type_told, mark_equivalence, agree_kept, agrees_with_first, relation_told, kinds_in, overlap_told, values_twice, target_names_nothing, target_unheld, targets_name_nothing, targets_unheld, has_many_values, many_values_in, attribute_told, macro_told}
+use Rattle.annotation_conf.specs.FaultsTold.{is_undeclared, too_deep, named_badly, marked_badly, names_no_type, unheld_in, type_told, mark_equivalence, agree_kept, agrees_with_first, relation_told, kinds_in, overlap_told, values_twice, target_names_nothing, target_unheld, targets_name_nothing, targets_unheld, has_many_values, many_values_in, attribute_told, macro_told}
 use Rattle.annotation_conf.proofs.FaultLists.{list_any_map, list_any_same, map_twice}
 use Rattle.annotation_conf.proofs.FaultKnown.{filter_through}
 
@@ -45,22 +47,24 @@ type_is file section before values pairs shapeless value line front shown same =
     let number : value.number ≡ line.number = ap (λ (k : KeptType). k.number) same in
     let depth : value.depth ≡ line.depth = ap (λ (k : KeptType). k.depth) same in
     let spaced : value.spaced ≡ line.spaced = ap (λ (k : KeptType). k.spaced) same in
+    let gapped : value.gapped ≡ line.gapped = ap (λ (k : KeptType). k.gapped) same in
     let name : value.name ≡ line.name = ap (λ (k : KeptType). k.name) same in
     told_same _ _ _ _ _ _ _ _ _ _ _ _ _ _ _ _ BadIndent BadName NameTwice BadCount BadArgument UnknownTypeNamed UnknownMacro TooManyTypes
     (ap (λ b. b || too_deep value.depth (option_map (λ l. l.depth) before)) spaced
     ∙ ap (λ d. line.spaced || too_deep d (option_map (λ l. l.depth) before)) depth
     ∙ ap (λ b. line.spaced || b) (sym (too_deep_same line.depth before))
     ∙ ap (λ o. line.spaced || is_too_deep line.depth o) (sym front))
-    (ap (λ n. is_no_declared n || named_badly values) name
-    ∙ ap (λ b. is_no_declared line.name || b) (sym (list_any_map names_badly seen_pair values) ∙ ap (list_any names_badly) shown))
+    (ap (λ b. b || is_no_declared value.name || named_badly values) gapped
+    ∙ ap (λ n. line.gapped || is_no_declared n || named_badly values) name
+    ∙ ap (λ b. line.gapped || is_no_declared line.name || b) (sym (list_any_map names_badly seen_pair values) ∙ ap (list_any names_badly) shown))
     (ap (λ n. stood_before n value.name (bound_names file) || stands_twice (map (λ pair. (seen_pair pair).role) values)) number
     ∙ ap (λ n. stood_before line.number n (bound_names file) || stands_twice (map (λ pair. (seen_pair pair).role) values)) name
     ∙ ap (λ xs. stood_before line.number line.name (bound_names file) || stands_twice xs)
     (sym (map_twice (λ (pair : RolePair). pair.role) seen_pair values) ∙ ap (map (λ (pair : RolePair). pair.role)) shown))
     (sym (list_any_map (λ (pair : RolePair). is_none (count_of pair.mark)) seen_pair values) ∙ ap (list_any (λ (pair : RolePair). is_none (count_of pair.mark))) shown)
     refl
-    (pairs_any (is_unknown file.macros (names_of (bound_names file))) values
-    ∙ ap (list_any (λ (pair : RolePair). list_any (is_unknown file.macros (names_of (bound_names file))) pair.alternatives)) shown)
+    (pairs_any (is_unknown file.macros (declared_names file) (names_of (bound_names file))) values
+    ∙ ap (list_any (λ (pair : RolePair). list_any (is_unknown file.macros (declared_names file) (names_of (bound_names file))) pair.alternatives)) shown)
     (pairs_any (is_unheld file.macros false) values ∙ ap (list_any (λ (pair : RolePair). list_any (is_unheld file.macros false) pair.alternatives)) shown)
     (ap (λ n. are_past 256 n (bound_names file) || are_past 63 n (of_types (filter (λ one. one.usable) (file.entities ++ file.events))) || nat_lt 256 (length values)) number
     ∙ ap (λ n. are_past 256 line.number (bound_names file) || are_past 63 line.number (of_types (filter (λ one. one.usable) (file.entities ++ file.events))) || nat_lt 256 n)
@@ -120,10 +124,10 @@ marked_shown values pairs shown =
     sym (list_any_map (λ (pair : RolePair). is_none (count_of pair.mark)) seen_pair values) ∙ ap (list_any (λ (pair : RolePair). is_none (count_of pair.mark))) shown
 
 no_type_shown : (file : File) (values : List RolePairValue) (pairs : List RolePair) → map seen_pair values ≡ pairs
-    → names_no_type file values ≡ list_any (λ (pair : RolePair). list_any (is_unknown file.macros (names_of (bound_names file))) pair.alternatives) pairs
+    → names_no_type file values ≡ list_any (λ (pair : RolePair). list_any (is_unknown file.macros (declared_names file) (names_of (bound_names file))) pair.alternatives) pairs
 no_type_shown file values pairs shown =
-    pairs_any (is_unknown file.macros (names_of (bound_names file))) values
-    ∙ ap (list_any (λ (pair : RolePair). list_any (is_unknown file.macros (names_of (bound_names file))) pair.alternatives)) shown
+    pairs_any (is_unknown file.macros (declared_names file) (names_of (bound_names file))) values
+    ∙ ap (list_any (λ (pair : RolePair). list_any (is_unknown file.macros (declared_names file) (names_of (bound_names file))) pair.alternatives)) shown
 
 unheld_shown : (file : File) (values : List RolePairValue) (pairs : List RolePair) → map seen_pair values ≡ pairs
     → unheld_in file values ≡ list_any (λ (pair : RolePair). list_any (is_unheld file.macros false) pair.alternatives) pairs
@@ -167,6 +171,7 @@ overlap_is file value line same =
     let shown : map seen_pair values ≡ pairs_of line.pieces = ap (λ (k : KeptNamed). k.behind.pairs) same in
     let shapeless : value.pieces.shapeless ≡ list_any is_shapeless line.pieces = ap (λ (k : KeptNamed). k.behind.shapeless) same in
     let keyed : map seen_keyed value.pieces.keyed.items ≡ keyed_of line.pieces = ap (λ (k : KeptNamed). k.behind.keyed) same in
+    let late : value.pieces.late ≡ kinds_lead line.pieces = ap (λ (k : KeptNamed). k.behind.late) same in
     let kinds : kinds_in value.pieces.keyed.items ≡ filter_map (keyed_value (codes "OVL-TYPE")) line.pieces =
     sym (map_twice (λ (pair : KeyedPair). pair.value) seen_keyed (filter (λ pair. bytes_eq pair.key (codes "OVL-TYPE")) value.pieces.keyed.items))
     ∙ ap (map (λ (pair : KeyedPair). pair.value)) (sym (filter_through (λ (pair : KeyedPair). bytes_eq pair.key (codes "OVL-TYPE")) seen_keyed value.pieces.keyed.items))
@@ -175,11 +180,36 @@ overlap_is file value line same =
     told5 _ _ _ _ _ _ _ _ _ _ BadName BadCount BadArgument UnknownTypeNamed UnknownMacro
     (named_shown values (pairs_of line.pieces) shown)
     (marked_shown values (pairs_of line.pieces) shown)
-    (ap (λ b. b || not (are_arguments (map seen_pair values)) || not (has_kinds (kinds_in value.pieces.keyed.items))) shapeless
-    ∙ ap (λ xs. list_any is_shapeless line.pieces || not (are_arguments xs) || not (has_kinds (kinds_in value.pieces.keyed.items))) shown
-    ∙ ap (λ xs. list_any is_shapeless line.pieces || not (are_arguments (pairs_of line.pieces)) || not (has_kinds xs)) kinds)
+    (ap (λ b. b || not (are_arguments (map seen_pair values)) || not (has_kinds (kinds_in value.pieces.keyed.items)) || value.pieces.late) shapeless
+    ∙ ap (λ xs. list_any is_shapeless line.pieces || not (are_arguments xs) || not (has_kinds (kinds_in value.pieces.keyed.items)) || value.pieces.late) shown
+    ∙ ap (λ xs. list_any is_shapeless line.pieces || not (are_arguments (pairs_of line.pieces)) || not (has_kinds xs) || value.pieces.late) kinds
+    ∙ ap (λ b. list_any is_shapeless line.pieces || not (are_arguments (pairs_of line.pieces)) || not (has_kinds (filter_map (keyed_value (codes "OVL-TYPE")) line.pieces)) || b) late)
     (no_type_shown file values (pairs_of line.pieces) shown)
     (unheld_shown file values (pairs_of line.pieces) shown)
+
+-- of declared names none is one that is declared and may not stand
+none_apart : (names held : List (List ℕ)) → list_any (λ one. is_among names one && not (is_among names one)) held ≡ false
+none_apart names [] = refl
+none_apart names (one ∷ held) = ap (λ b. b || list_any (λ other. is_among names other && not (is_among names other)) held) (never (is_among names one)) ∙ none_apart names held
+  where
+    never : (b : Bool) → (b && not b) ≡ false
+    never true = refl
+    never false = refl
+
+undeclared_held : (names : List (List ℕ)) (o : Option Holding) → false ≡ option_map_or (λ holding. list_any (λ one. is_among names one && not (is_among names one)) holding.names) o false
+undeclared_held names None = refl
+undeclared_held names (Some holding) = sym (none_apart names holding.names)
+
+undeclared_one : (file : File) (macros : List MacroLine) (one : AlternativeValue) → is_undeclared file one ≡ is_unknown macros (declared_names file) (declared_names file) (seen_alternative one)
+undeclared_one file macros (NamedValue name) = refl
+undeclared_one file macros (HeldValue name) = undeclared_held (declared_names file) (macro_named macros name)
+
+-- where each declared name may stand, what is unknown is a name that is not declared
+undeclared_any : (file : File) (macros : List MacroLine) (all : List AlternativeValue)
+    → list_any (is_undeclared file) all ≡ list_any (is_unknown macros (declared_names file) (declared_names file)) (map seen_alternative all)
+undeclared_any file macros all =
+    list_any_same (is_undeclared file) (λ one. is_unknown macros (declared_names file) (declared_names file) (seen_alternative one)) all (undeclared_one file macros)
+    ∙ sym (list_any_map (is_unknown macros (declared_names file) (declared_names file)) seen_alternative all)
 
 pub list_any_filter : {X : Type 0} (p q : X → Bool) (xs : List X) → list_any p (filter q xs) ≡ list_any (λ x. q x && p x) xs
 list_any_filter p q [] = refl
@@ -213,8 +243,8 @@ attribute_is file value line same =
     (λ v. ap (λ xs. is_values (seen_pair v) && stands_twice xs) (sym (map_twice word_of seen_alternative v.alternatives.items)))))
     (marked_shown values (pairs_of line.pieces) shown)
     (ap (λ b. b || not (is_attribute (map seen_pair values))) shapeless ∙ ap (λ xs. list_any is_shapeless line.pieces || not (is_attribute xs)) shown)
-    (sort_any (λ pair. not (is_values pair)) (λ (pair : RolePair). list_any (is_unknown file.macros (names_of (bound_names file ++ of_named file.relations))) pair.alternatives) (target_names_nothing file) values (pairs_of line.pieces) shown
-    (λ v. ap (λ b. not (is_values (seen_pair v)) && b) (sym (list_any_map (is_unknown file.macros (names_of (bound_names file ++ of_named file.relations))) seen_alternative v.alternatives.items))))
+    (sort_any (λ pair. not (is_values pair)) (λ (pair : RolePair). list_any (is_unknown file.macros (declared_names file) (declared_names file)) pair.alternatives) (target_names_nothing file) values (pairs_of line.pieces) shown
+    (λ v. ap (λ b. not (is_values (seen_pair v)) && b) (undeclared_any file file.macros v.alternatives.items)))
     (sort_any (λ pair. not (is_values pair)) (λ (pair : RolePair). list_any (is_unheld file.macros true) pair.alternatives) (target_unheld file) values (pairs_of line.pieces) shown
     (λ v. ap (λ b. not (is_values (seen_pair v)) && b) (sym (list_any_map (is_unheld file.macros true) seen_alternative v.alternatives.items))))
     (ap (λ n. are_past 256 n (of_named file.attributes) || list_any has_many_values values) number
@@ -226,6 +256,7 @@ attribute_is file value line same =
 pub macro_is : (file : File) (count : ℕ) (front : List MacroLine) (value : MacroLineValue) (line : MacroLine)
     → take count file.macros ≡ front → filter (λ macro. nat_lt macro.number line.number) file.macros ≡ front → seen_macro value ≡ kept_macro line
     → macro_told file count value ≡ macro_fault file line.number line.name line.alternatives
+unfolding macro_told
 macro_is file count front value line first before same =
     let name : value.name ≡ line.name = ap (λ (k : KeptMacro). k.name) same in
     let shown : map seen_alternative value.alternatives.items ≡ line.alternatives = ap (λ (k : KeptMacro). k.alternatives) same in
@@ -235,8 +266,8 @@ macro_is file count front value line first before same =
     ∙ ap (λ b. is_no_name line.name || b)
     (sym (list_any_map (λ one. is_no_name (word_of one)) seen_alternative value.alternatives.items) ∙ ap (list_any (λ one. is_no_name (word_of one))) shown))
     (ap (λ ms. is_some (macro_named ms value.name)) front_is ∙ ap (λ n. is_some (macro_named (filter (λ macro. nat_lt macro.number line.number) file.macros) n)) name)
-    (sym (list_any_map (is_unknown (take count file.macros) (names_of (bound_names file ++ of_named file.relations))) seen_alternative value.alternatives.items)
-    ∙ ap (list_any (is_unknown (take count file.macros) (names_of (bound_names file ++ of_named file.relations)))) shown
-    ∙ ap (λ ms. list_any (is_unknown ms (names_of (bound_names file ++ of_named file.relations))) line.alternatives) front_is)
+    (undeclared_any file (take count file.macros) value.alternatives.items
+    ∙ ap (list_any (is_unknown (take count file.macros) (declared_names file) (declared_names file))) shown
+    ∙ ap (λ ms. list_any (is_unknown ms (declared_names file) (declared_names file)) line.alternatives) front_is)
     (sym (list_any_map (is_unheld (take count file.macros) true) seen_alternative value.alternatives.items)
     ∙ ap (list_any (is_unheld (take count file.macros) true)) shown ∙ ap (λ ms. list_any (is_unheld ms true) line.alternatives) front_is)

@@ -86,7 +86,7 @@ kind-joined f n Before (Macro name cs) = macro-joined f n name cs _
 kind-joined f n Before (Content cs) = sym (joined-nothing f)
 kind-joined f n Nowhere Skipped = sym (joined-nothing f)
 kind-joined f n Nowhere (Header s) = sym (joined-nothing f)
-kind-joined f n Nowhere (Macro name cs) = sym (joined-nothing f)
+kind-joined f n Nowhere (Macro name cs) = macro-joined f n name cs _
 kind-joined f n Nowhere (Content cs) = sym (joined-nothing f)
 kind-joined f n (Within s) Skipped = sym (joined-nothing f)
 kind-joined f n (Within s) (Header o) = sym (joined-nothing f)
@@ -95,15 +95,10 @@ kind-joined f n (Within s) (Content cs) = section-joined f n s cs
 
 -- what a macro is kept as does not depend on the macros before it
 macro-kept : (before : List MacroLine) (n : ℕ) (place : Place) (kind : Kind) → map kept_macro (macro_at before n place kind) ≡ map kept_macro (macro_at [] n place kind)
-macro-kept before n Before Skipped = refl
-macro-kept before n Before (Header s) = refl
-macro-kept before n Before (Macro name cs) = refl
-macro-kept before n Before (Content cs) = refl
-macro-kept before n Nowhere kind = refl
-macro-kept before n (Within s) Skipped = refl
-macro-kept before n (Within s) (Header o) = refl
-macro-kept before n (Within s) (Macro name cs) = refl
-macro-kept before n (Within s) (Content cs) = refl
+macro-kept before n place Skipped = refl
+macro-kept before n place (Header s) = refl
+macro-kept before n place (Macro name cs) = refl
+macro-kept before n place (Content cs) = refl
 
 macros_from-append : (before : List MacroLine) (ls : List Line) (line : Line)
     → macros_from before (ls ++ line ∷ []) ≡ macros_from before ls ++ macro_at (macros_from before ls) line.number line.place line.kind

@@ -1,7 +1,7 @@
 -- The macros of a file are those that are kept, with what each holds.
 use Rattle.std.proofs.Common.{◌≡◌, ℕ, List, [], ◌∷◌, ◌++◌, refl, sym, ◌∙◌, ap, append_assoc, map}
 use Rattle.std.proofs.lemmas.List.{append-nil, map-append}
-use Rattle.annotation_conf.specs.ConfLines.{Place, Before, Nowhere, Within, Kind, Skipped, Header, Macro, Content, Line, file_lines}
+use Rattle.annotation_conf.specs.ConfLines.{Place, Kind, Skipped, Header, Macro, Content, Line, file_lines}
 use Rattle.annotation_conf.specs.ConfNames.{MacroLine, macro_at, macros_from, file_of}
 use Rattle.annotation_conf.specs.FileKept.{KeptMacro, kept_macro}
 use Rattle.annotation_conf.specs.FileHolds.{held_from}
@@ -13,15 +13,10 @@ kept_macros (line ∷ lines) = map kept_macro (macro_at [] line.number line.plac
 
 -- what a macro is kept as does not depend on those before it
 one_kept : (before : List MacroLine) (n : ℕ) (place : Place) (kind : Kind) → map kept_macro (macro_at before n place kind) ≡ map kept_macro (macro_at [] n place kind)
-one_kept before n Nowhere kind = refl
-one_kept before n Before Skipped = refl
-one_kept before n Before (Header s) = refl
-one_kept before n Before (Macro name cs) = refl
-one_kept before n Before (Content cs) = refl
-one_kept before n (Within s) Skipped = refl
-one_kept before n (Within s) (Header o) = refl
-one_kept before n (Within s) (Macro name cs) = refl
-one_kept before n (Within s) (Content cs) = refl
+one_kept before n place Skipped = refl
+one_kept before n place (Header s) = refl
+one_kept before n place (Macro name cs) = refl
+one_kept before n place (Content cs) = refl
 
 all_kept : (before : List MacroLine) (ls : List Line) → map kept_macro (macros_from before ls) ≡ map kept_macro before ++ kept_macros ls
 all_kept before [] = sym (append-nil (map kept_macro before))
@@ -34,15 +29,10 @@ all_kept before (line ∷ ls) =
 -- one line is read alike either way
 one_held : (before : List MacroLine) (n : ℕ) (place : Place) (kind : Kind) (more : List KeptMacro)
     → held_from (before ++ macro_at before n place kind) more ≡ held_from before (map kept_macro (macro_at [] n place kind) ++ more)
-one_held before n Nowhere kind more = ap (λ b. held_from b more) (append-nil before)
-one_held before n Before Skipped more = ap (λ b. held_from b more) (append-nil before)
-one_held before n Before (Header s) more = ap (λ b. held_from b more) (append-nil before)
-one_held before n Before (Macro name cs) more = refl
-one_held before n Before (Content cs) more = ap (λ b. held_from b more) (append-nil before)
-one_held before n (Within s) Skipped more = ap (λ b. held_from b more) (append-nil before)
-one_held before n (Within s) (Header o) more = ap (λ b. held_from b more) (append-nil before)
-one_held before n (Within s) (Macro name cs) more = refl
-one_held before n (Within s) (Content cs) more = ap (λ b. held_from b more) (append-nil before)
+one_held before n place Skipped more = ap (λ b. held_from b more) (append-nil before)
+one_held before n place (Header s) more = ap (λ b. held_from b more) (append-nil before)
+one_held before n place (Macro name cs) more = refl
+one_held before n place (Content cs) more = ap (λ b. held_from b more) (append-nil before)
 
 all_held_from : (before : List MacroLine) (ls : List Line) → macros_from before ls ≡ held_from before (kept_macros ls)
 all_held_from before [] = refl

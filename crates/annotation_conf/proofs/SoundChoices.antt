@@ -11,7 +11,7 @@ use Rattle.type_hierarchy.specs.declared.type_row.TypeRow.{TypeRow}
 use Rattle.annotation_conf.specs.ConfPairs.{Alternative}
 use Rattle.annotation_conf.specs.ConfNames.{File, Holding, all_held, file_of_lines}
 use Rattle.annotation_conf.specs.ConfLines.{Line}
-use Rattle.annotation_conf.specs.ConfFaults.{Declared, of_named, bound_names, names_of, is_among, is_unknown, is_unheld, firsts}
+use Rattle.annotation_conf.specs.ConfFaults.{Declared, of_named, bound_names, names_of, declared_names, is_among, is_unknown, is_unheld, firsts}
 use Rattle.annotation_conf.specs.ConfOf.{places_of, resolved, relation_of, configuration_of, first_fault}
 use Rattle.annotation_conf.specs.ConfText.{type_name_at, relation_name_at}
 use Rattle.annotation_conf.specs.Configurations.{RelationType, Configuration}
@@ -20,8 +20,8 @@ use Rattle.annotation_conf.proofs.SoundLists.{Each-map, map-map}
 use Rattle.annotation_conf.proofs.SoundLines.{AreNumbered, each_faultless}
 use Rattle.annotation_conf.proofs.SoundFiles.{KeepsAll, keeps_all}
 use Rattle.annotation_conf.proofs.SoundFirsts.{firsts_have, names_of_named}
-use Rattle.annotation_conf.proofs.SoundHoldings.{AllHoldSome, MayStand, all_may, all_some}
-use Rattle.annotation_conf.proofs.SoundMacros.{macros_some}
+use Rattle.annotation_conf.proofs.SoundHoldings.{AllHold, MayStand, all_may, all_some}
+use Rattle.annotation_conf.proofs.SoundMacros.{macros_hold}
 use Rattle.annotation_conf.proofs.SoundNames.{bytes_same}
 use Rattle.annotation_conf.proofs.SoundPlaces.{NamesPlaces, places_again, places_held, places_within, places_some}
 use Rattle.annotation_conf.proofs.SoundSizes.{names_are}
@@ -31,13 +31,13 @@ use Rattle.annotation_conf.proofs.SoundWords.{AreSpelt, are_spelt}
 -- a file of UTF-8 lines without fault
 pub record IsClean (file : File) : Type 0 where
   pub keeps : KeepsAll file
-  pub macros : AllHoldSome file.macros
+  pub macros : AllHold (declared_names file) file.macros
   pub spelt : AreSpelt file
 
 pub is_clean : (lines : List Line) → AreNumbered 1 lines → AreTexts lines → first_fault (file_of_lines lines) lines ≡ None → IsClean (file_of_lines lines)
 is_clean lines numbered texts e = record {
   keeps = keeps_all lines numbered e;
-  macros = macros_some (file_of_lines lines) 1 [] lines numbered refl tt tt (each_faultless (file_of_lines lines) lines e);
+  macros = macros_hold (file_of_lines lines) 1 [] lines numbered refl tt tt (each_faultless (file_of_lines lines) lines e);
   spelt = are_spelt lines texts;
 }
 
@@ -80,13 +80,13 @@ some_named false false false false (name ∷ more) x y e h = h name more refl
 
 -- what alternatives keep whose names are known and whose macros are defined
 pub targets_keep : (file : File) → IsClean file → (relations : Bool) (known : List (List ℕ)) (alternatives : List Alternative) → FindsKnown file relations known → 0 < length alternatives
-    → list_any (is_unknown file.macros known) alternatives ≡ false → list_any (is_unheld file.macros relations) alternatives ≡ false
+    → list_any (is_unknown file.macros (declared_names file) known) alternatives ≡ false → list_any (is_unheld file.macros relations) alternatives ≡ false
     → AreTargets (configuration_of file) relations (resolved file relations alternatives)
 targets_keep file clean relations known alternatives finds some unknown unheld =
     record {
       some =
           some_named held.entity held.event held.any held.relation held.names (nat_lt 0 (length bound)) (nat_lt 0 (length between))
-          (all_some file.macros relations alternatives clean.macros some unheld) (λ name more is. has_place name (head name more is) (among name more is));
+          (all_some (declared_names file) file.macros relations alternatives clean.macros some unheld) (λ name more is. has_place name (head name more is) (among name more is));
       relation = may.relation;
       bound_within =
           All-from_recursion (λ place. place < length conf.types) bound
@@ -123,7 +123,7 @@ targets_keep file clean relations known alternatives finds some unknown unheld =
     between = cond relations (places_of held.names relation_names) []
 
     may : MayStand known relations held
-    may = all_may file.macros known relations alternatives unknown unheld
+    may = all_may (declared_names file) file.macros known relations alternatives clean.macros unknown unheld
 
     relation_named : NamesPlaces relation_names (relation_name_at conf)
     relation_named = subst (λ names. NamesPlaces names (relation_name_at conf)) (relation_names_are file) (named_by (λ (relation : RelationType). relation.name) conf.relations)

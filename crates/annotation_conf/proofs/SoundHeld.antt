@@ -1,12 +1,18 @@
 -- What written alternatives hold, and that they resolve to what was written.
-use Rattle.std.proofs.Common.{◌≡◌, ℕ, ◌||◌, Bool, true, false, cond, List, [], ◌∷◌, ◌++◌, map, codes, refl, sym, ◌∙◌, ap, ap₂, append_assoc}
+use Rattle.std.proofs.Common.{◌≡◌, ℕ, ◌||◌, Bool, true, false, not, cond, List, [], ◌∷◌, ◌++◌, Option, Some, None, map, filter, length, slice_get, bytes_eq, codes, refl, sym, ◌∙◌, ap, ap₂, append_assoc}
+use Rattle.std.specs.List.{range_with_len}
+use Rattle.std.specs.Option.{option_map_or}
+use Rattle.std.proofs.lemmas.Bool.{false_from_ne_true, true≢false}
+use Rattle.std.proofs.lemmas.List.Folds.{list_any-append}
 use Rattle.annotation_conf.specs.ConfPairs.{Alternative, Named}
 use Rattle.annotation_conf.specs.ConfNames.{Holding, File, none_held, both_held, one_held, all_held}
-use Rattle.annotation_conf.specs.ConfFaults.{of_named, bound_names, names_of, firsts}
+use Rattle.annotation_conf.specs.ConfFaults.{is_among, of_named, bound_names, names_of, firsts}
 use Rattle.annotation_conf.specs.ConfOf.{places_of, resolved}
-use Rattle.annotation_conf.specs.ConfText.{type_name_at, relation_name_at}
+use Rattle.annotation_conf.specs.ConfText.{type_name_at, relation_name_at, has_type_named, named_apart}
 use Rattle.annotation_conf.specs.Configurations.{Alternatives, Configuration}
 use Rattle.annotation_conf.specs.Sound.{AreTargets, named_names}
+use Rattle.annotation_conf.proofs.FaultLists.{list_any_map}
+use Rattle.annotation_conf.proofs.SoundNames.{same_bytes}
 use Rattle.annotation_conf.proofs.Written.{held_where, written_alternatives}
 
 -- what two lists of alternatives hold
@@ -77,11 +83,15 @@ both_are false false true false = λ b r. refl
 both_are false false false true = λ b r. refl
 both_are false false false false = λ b r. refl
 
--- what written alternatives hold: what is said, and the names of the places
+-- the names that are written
+abbrev pub written_names : Configuration → Alternatives → List (List ℕ)
+written_names conf named = map (type_name_at conf) named.bound ++ map (relation_name_at conf) (named_apart conf named)
+
+-- what written alternatives hold: what is said, and the names that are written
 pub held_again : (conf : Configuration) (named : Alternatives) → all_held [] (written_alternatives conf named)
-    ≡ record { entity = named.entity; event = named.event; any = named.any; relation = named.relation; names = named_names conf named }
+    ≡ record { entity = named.entity; event = named.event; any = named.any; relation = named.relation; names = written_names conf named }
 held_again conf named =
-    all_held-append (held_where named.entity (codes "ENTITY") ++ held_where named.event (codes "EVENT") ++ held_where named.any (codes "ANY") ++ held_where named.relation (codes "RELATION") ++ map (λ place. Named (type_name_at conf place)) named.bound) (map (λ place. Named (relation_name_at conf place)) named.between)
+    all_held-append (held_where named.entity (codes "ENTITY") ++ held_where named.event (codes "EVENT") ++ held_where named.any (codes "ANY") ++ held_where named.relation (codes "RELATION") ++ map (λ place. Named (type_name_at conf place)) named.bound) (map (λ place. Named (relation_name_at conf place)) (named_apart conf named))
     ∙ ap₂ both_held
     (all_held-append (held_where named.entity (codes "ENTITY") ++ held_where named.event (codes "EVENT") ++ held_where named.any (codes "ANY") ++ held_where named.relation (codes "RELATION")) (map (λ place. Named (type_name_at conf place)) named.bound)
     ∙ ap₂ both_held
@@ -90,8 +100,57 @@ held_again conf named =
     (all_held-append (held_where named.entity (codes "ENTITY") ++ held_where named.event (codes "EVENT")) (held_where named.any (codes "ANY"))
     ∙ ap₂ both_held
     (all_held-append (held_where named.entity (codes "ENTITY")) (held_where named.event (codes "EVENT")) ∙ ap₂ both_held (held_entity named.entity) (held_event named.event))
-    (held_any named.any)) (held_relation named.relation)) (held_names (type_name_at conf) named.bound)) (held_names (relation_name_at conf) named.between)
-    ∙ both_are named.entity named.event named.any named.relation (map (type_name_at conf) named.bound) (map (relation_name_at conf) named.between)
+    (held_any named.any)) (held_relation named.relation)) (held_names (type_name_at conf) named.bound)) (held_names (relation_name_at conf) (named_apart conf named))
+    ∙ both_are named.entity named.event named.any named.relation (map (type_name_at conf) named.bound) (map (relation_name_at conf) (named_apart conf named))
+
+filter_same : {X : Type 0} (p q : X → Bool) (xs : List X) → ((x : X) → p x ≡ q x) → filter p xs ≡ filter q xs
+filter_same p q [] same = refl
+filter_same p q (x ∷ xs) same = ap (λ b. cond b (x ∷ filter p xs) (filter p xs)) (same x) ∙ ap (λ rest. cond (q x) (x ∷ rest) rest) (filter_same p q xs same)
+
+-- among the names of relation types those that no type has stand alike
+among_apart : (conf : Configuration) (bound between : List ℕ) (name : List ℕ) → has_type_named conf bound name ≡ false
+    → is_among (map (relation_name_at conf) (filter (λ place. not (has_type_named conf bound (relation_name_at conf place))) between)) name ≡ is_among (map (relation_name_at conf) between) name
+among_apart conf bound [] name none = refl
+among_apart conf bound (place ∷ between) name none = go (has_type_named conf bound (relation_name_at conf place)) refl (among_apart conf bound between name none)
+  where
+    other : has_type_named conf bound (relation_name_at conf place) ≡ true → bytes_eq name (relation_name_at conf place) ≡ false
+    other e =
+        false_from_ne_true (bytes_eq name (relation_name_at conf place))
+        (λ f. true≢false (sym (ap (has_type_named conf bound) (same_bytes name (relation_name_at conf place) f) ∙ e) ∙ none))
+
+    kept : List ℕ
+    kept = filter (λ other. not (has_type_named conf bound (relation_name_at conf other))) between
+
+    go : (b : Bool) → has_type_named conf bound (relation_name_at conf place) ≡ b
+        → is_among (map (relation_name_at conf) kept) name ≡ is_among (map (relation_name_at conf) between) name
+        → is_among (map (relation_name_at conf) (cond (not b) (place ∷ kept) kept)) name ≡ (bytes_eq name (relation_name_at conf place) || is_among (map (relation_name_at conf) between) name)
+    go false e rest = ap (λ c. bytes_eq name (relation_name_at conf place) || c) rest
+    go true e rest = rest ∙ sym (ap (λ c. c || is_among (map (relation_name_at conf) between) name) (other e))
+
+-- the names that are written are those of the places
+names_alike : (conf : Configuration) (named : Alternatives) (name : List ℕ) → is_among (written_names conf named) name ≡ is_among (named_names conf named) name
+names_alike conf named name =
+    list_any-append (bytes_eq name) (map (type_name_at conf) named.bound) (map (relation_name_at conf) (named_apart conf named))
+    ∙ go (is_among (map (type_name_at conf) named.bound) name) refl
+    ∙ sym (list_any-append (bytes_eq name) (map (type_name_at conf) named.bound) (map (relation_name_at conf) named.between))
+  where
+    go : (b : Bool) → is_among (map (type_name_at conf) named.bound) name ≡ b
+        → (is_among (map (type_name_at conf) named.bound) name || is_among (map (relation_name_at conf) (named_apart conf named)) name)
+        ≡ (is_among (map (type_name_at conf) named.bound) name || is_among (map (relation_name_at conf) named.between) name)
+    go true e =
+        ap (λ b. b || is_among (map (relation_name_at conf) (named_apart conf named)) name) e ∙ sym (ap (λ b. b || is_among (map (relation_name_at conf) named.between) name) e)
+    go false e =
+        ap (λ c. is_among (map (type_name_at conf) named.bound) name || c)
+        (among_apart conf named.bound named.between name (sym (list_any_map (bytes_eq name) (type_name_at conf) named.bound) ∙ e))
+
+places_alike : (conf : Configuration) (named : Alternatives) (names : List (List ℕ)) → places_of (written_names conf named) names ≡ places_of (named_names conf named) names
+places_alike conf named names =
+    filter_same (λ place. option_map_or (is_among (written_names conf named)) (slice_get names place) false) (λ place. option_map_or (is_among (named_names conf named)) (slice_get names place) false)
+    (range_with_len 0 (length names)) (λ place. one (slice_get names place))
+  where
+    one : (o : Option (List ℕ)) → option_map_or (is_among (written_names conf named)) o false ≡ option_map_or (is_among (named_names conf named)) o false
+    one None = refl
+    one (Some name) = names_alike conf named name
 
 -- a file that has the names of the configuration and no macros
 pub record HasNames (file : File) (conf : Configuration) : Type 0 where
@@ -105,8 +164,10 @@ pub resolved_again : (file : File) (conf : Configuration) → HasNames file conf
 resolved_again file conf has relations named sound =
     ap (λ macros. of_holding (all_held macros (written_alternatives conf named)) (names_of (bound_names file)) (names_of (of_named (firsts file.relations)))) has.macros
     ∙ ap (λ h. of_holding h (names_of (bound_names file)) (names_of (of_named (firsts file.relations)))) (held_again conf named)
-    ∙ ap₂ (of_holding (record { entity = named.entity; event = named.event; any = named.any; relation = named.relation; names = named_names conf named })) has.types has.relations
-    ∙ ap₂ (λ (b r : List ℕ). record { entity = named.entity; event = named.event; any = named.any; relation = named.relation; bound = b; between = r }) sound.bound sound.between
+    ∙ ap₂ (of_holding (record { entity = named.entity; event = named.event; any = named.any; relation = named.relation; names = written_names conf named })) has.types has.relations
+    ∙ ap₂ (λ (b r : List ℕ). record { entity = named.entity; event = named.event; any = named.any; relation = named.relation; bound = b; between = r })
+    (places_alike conf named (map (λ row. row.name) conf.types) ∙ sound.bound)
+    (ap (λ places. cond relations places []) (places_alike conf named (map (λ relation. relation.name) conf.relations)) ∙ sound.between)
   where
     of_holding : Holding → List (List ℕ) → List (List ℕ) → Alternatives
     of_holding holding types names = record {

@@ -8,7 +8,7 @@ use Rattle.std.proofs.lemmas.List.Elements.{All-from_recursion}
 use Rattle.type_hierarchy.specs.declared.type_row.TypeRow.{TypeRow}
 use Rattle.annotation_conf.specs.ConfLines.{Before, file_lines}
 use Rattle.annotation_conf.specs.ConfNames.{TypeLine, NamedLine, File, file_of}
-use Rattle.annotation_conf.specs.ConfFaults.{RolePair, Declared, stood_before, pairs_of, is_values, values_badly, is_attribute, is_held, is_no_name, word_of, is_unknown, is_unheld, bound_names, of_named, names_of, stands_twice, is_too_deep, line_before, is_shapeless}
+use Rattle.annotation_conf.specs.ConfFaults.{RolePair, Declared, stood_before, pairs_of, is_values, values_badly, is_attribute, is_held, is_no_name, word_of, is_unknown, is_unheld, declared_names, bound_names, of_named, names_of, stands_twice, is_too_deep, line_before, is_shapeless}
 use Rattle.annotation_conf.specs.ConfOf.{rows_from, role_of, attribute_of, resolved, configuration_of, conf_of}
 use Rattle.annotation_conf.specs.Configurations.{AttributeType, Configuration}
 use Rattle.annotation_conf.specs.Sound.{IsName, IsDeclaredName, AreTargets, AreRoles, IsRelation, IsOverlap, IsAttribute, IsSound, entity_lines, steps_down}
@@ -52,7 +52,7 @@ attribute_keeps file clean line k spelt =
       name = record { valid = spelt.name; faultless = k.name };
       targets =
           subst (λ alternatives. AreTargets (configuration_of file) true (resolved file true alternatives)) (sym alternatives_are)
-          (targets_keep file clean true known p.arg.alternatives (finds_both file clean.keeps) (arg_keeps.0).some (each_fails (λ (pair : RolePair). list_any (is_unknown file.macros known) pair.alternatives) (p.arg ∷ []) (subst (λ pairs. list_any (λ (pair : RolePair). list_any (is_unknown file.macros known) pair.alternatives) pairs ≡ false) p.targets_are k.alternatives.known)).0
+          (targets_keep file clean true known p.arg.alternatives (finds_both file clean.keeps) (arg_keeps.0).some (each_fails (λ (pair : RolePair). list_any (is_unknown file.macros (declared_names file) known) pair.alternatives) (p.arg ∷ []) (subst (λ pairs. list_any (λ (pair : RolePair). list_any (is_unknown file.macros (declared_names file) known) pair.alternatives) pairs ≡ false) p.targets_are k.alternatives.known)).0
           (each_fails (λ (pair : RolePair). list_any (is_unheld file.macros true) pair.alternatives) (p.arg ∷ []) (subst (λ pairs. list_any (λ (pair : RolePair). list_any (is_unheld file.macros true) pair.alternatives) pairs ≡ false) p.targets_are k.alternatives.held)).0);
       few =
           subst (λ values. length (flat_map (λ (pair : RolePair). map word_of pair.alternatives) values) ≤ 256) (sym p.values_are)

@@ -10,7 +10,7 @@ use Rattle.annotation_conf.specs.declared.conf_fault.ConfWhat.{ConfWhat}
 use Rattle.annotation_conf.specs.declared.conf_fault.ConfWhat.TheVariants.{BadName, NameTwice, BadCount, BadArgument, UnknownTypeNamed, UnknownMacro, TooManyTypes}
 use Rattle.annotation_conf.specs.ConfPairs.{Piece, Pair, Keyed, Alternative, Named, count_of}
 use Rattle.annotation_conf.specs.ConfNames.{NamedLine, is_overlap}
-use Rattle.annotation_conf.specs.ConfFaults.{RolePair, Declared, pairs_of, is_no_name, is_no_declared, names_badly, word_of, is_held, stood_before, bound_names, of_named, names_of, stands_twice, is_among, is_unknown, is_unheld, are_past, is_shapeless, is_binary, agrees, same_words, same_truth, first_line, firsts, is_equivalence_line, are_arguments, are_kinds, has_kinds, keyed_value, values_badly, is_values, is_attribute, relation_fault, overlap_fault, attribute_fault}
+use Rattle.annotation_conf.specs.ConfFaults.{RolePair, Declared, pairs_of, is_no_name, is_no_declared, names_badly, word_of, is_held, stood_before, bound_names, of_named, names_of, stands_twice, is_among, declared_names, kinds_lead, is_unknown, is_unheld, are_past, is_shapeless, is_binary, agrees, same_words, same_truth, first_line, firsts, is_equivalence_line, are_arguments, are_kinds, has_kinds, keyed_value, values_badly, is_values, is_attribute, relation_fault, overlap_fault, attribute_fault}
 use Rattle.annotation_conf.specs.ConfText.{type_name_at, relation_name_at}
 use Rattle.annotation_conf.specs.Configurations.{Arguments, RelationType, AttributeType, Overlap, Configuration}
 use Rattle.annotation_conf.specs.Sound.{IsName, IsDeclaredName, AreArguments, IsRelation, IsAttribute, IsOverlap, IsSound}
@@ -107,13 +107,13 @@ relation_clean conf s k row a =
     let pairs = plain_pair conf row.0.first (written_alternatives conf row.1.first) ∷ plain_pair conf row.0.second (written_alternatives conf row.1.second) ∷ [] in
     let known = names_of (bound_names (written_file conf)) in
     let two = two_pairs conf row in
-    let first = are_spoken conf s false (names_of (bound_names (written_file conf))) (known_types conf s) row.1.first a.arguments.first in
-    let second = are_spoken conf s false (names_of (bound_names (written_file conf))) (known_types conf s) row.1.second a.arguments.second in
+    let first = are_spoken conf s false (declared_names (written_file conf)) (names_of (bound_names (written_file conf))) (known_types conf s) row.1.first a.arguments.first in
+    let second = are_spoken conf s false (declared_names (written_file conf)) (names_of (bound_names (written_file conf))) (known_types conf s) row.1.second a.arguments.second in
     none_told (
     (is_no_declared row.0.name || list_any names_badly (pairs_of (relation_pieces conf row)), BadName)
     ∷ (list_any (λ (pair : RolePair). is_none (count_of pair.mark)) (pairs_of (relation_pieces conf row)), BadCount)
     ∷ (list_any is_shapeless (relation_pieces conf row) || not (is_binary (pairs_of (relation_pieces conf row))) || not (option_map_or (agrees (written_relation conf k row)) (first_line (written_file conf).relations row.0.name) true), BadArgument)
-    ∷ (list_any (λ (pair : RolePair). list_any (is_unknown [] (names_of (bound_names (written_file conf)))) pair.alternatives) (pairs_of (relation_pieces conf row)), UnknownTypeNamed)
+    ∷ (list_any (λ (pair : RolePair). list_any (is_unknown [] (declared_names (written_file conf)) (names_of (bound_names (written_file conf)))) pair.alternatives) (pairs_of (relation_pieces conf row)), UnknownTypeNamed)
     ∷ (list_any (λ (pair : RolePair). list_any (is_unheld [] false) pair.alternatives) (pairs_of (relation_pieces conf row)), UnknownMacro)
     ∷ (are_past 256 k (of_named (firsts (written_file conf).relations)), TooManyTypes)
     ∷ []) (
@@ -130,8 +130,8 @@ relation_clean conf s k row a =
               (ap (λ pairs. not (is_binary pairs)) (two_pairs conf row) ∙ ap (λ b. not (not b)) a.relation.differ))
               (not_from_true (option_map_or (agrees (written_relation conf k row)) (first_line (written_file conf).relations row.0.name) true) agreed),
           (
-            ap (list_any (λ (pair : RolePair). list_any (is_unknown [] (names_of (bound_names (written_file conf)))) pair.alternatives)) (two_pairs conf row)
-                ∙ both (list_any (is_unknown [] (names_of (bound_names (written_file conf)))) (written_alternatives conf row.1.first)) (list_any (is_unknown [] (names_of (bound_names (written_file conf)))) (written_alternatives conf row.1.second)) first.known_all second.known_all,
+            ap (list_any (λ (pair : RolePair). list_any (is_unknown [] (declared_names (written_file conf)) (names_of (bound_names (written_file conf)))) pair.alternatives)) (two_pairs conf row)
+                ∙ both (list_any (is_unknown [] (declared_names (written_file conf)) (names_of (bound_names (written_file conf)))) (written_alternatives conf row.1.first)) (list_any (is_unknown [] (declared_names (written_file conf)) (names_of (bound_names (written_file conf)))) (written_alternatives conf row.1.second)) first.known_all second.known_all,
             (
               ap (list_any (λ (pair : RolePair). list_any (is_unheld [] false) pair.alternatives)) (two_pairs conf row)
                   ∙ both (list_any (is_unheld [] false) (written_alternatives conf row.1.first)) (list_any (is_unheld [] false) (written_alternatives conf row.1.second)) first.held second.held,
@@ -196,13 +196,13 @@ kinds_clean false false false false e = absurd (true≢false (sym e))
 overlap_clean : (conf : Configuration) → IsSound conf → (line : Overlap) → IsOverlap conf line → (k : ℕ) → overlap_fault (written_file conf) (written_overlap conf k line) ≡ None
 overlap_clean conf s line a k =
     let known = names_of (bound_names (written_file conf)) in
-    let first = are_spoken conf s false (names_of (bound_names (written_file conf))) (known_types conf s) line.first a.first in
-    let second = are_spoken conf s false (names_of (bound_names (written_file conf))) (known_types conf s) line.second a.second in
+    let first = are_spoken conf s false (declared_names (written_file conf)) (names_of (bound_names (written_file conf))) (known_types conf s) line.first a.first in
+    let second = are_spoken conf s false (declared_names (written_file conf)) (names_of (bound_names (written_file conf))) (known_types conf s) line.second a.second in
     none_told (
     (list_any names_badly (pairs_of (overlap_pieces conf line)), BadName)
     ∷ (list_any (λ (pair : RolePair). is_none (count_of pair.mark)) (pairs_of (overlap_pieces conf line)), BadCount)
-    ∷ (list_any is_shapeless (overlap_pieces conf line) || not (are_arguments (pairs_of (overlap_pieces conf line))) || not (has_kinds (filter_map (keyed_value (codes "OVL-TYPE")) (overlap_pieces conf line))), BadArgument)
-    ∷ (list_any (λ (pair : RolePair). list_any (is_unknown [] (names_of (bound_names (written_file conf)))) pair.alternatives) (pairs_of (overlap_pieces conf line)), UnknownTypeNamed)
+    ∷ (list_any is_shapeless (overlap_pieces conf line) || not (are_arguments (pairs_of (overlap_pieces conf line))) || not (has_kinds (filter_map (keyed_value (codes "OVL-TYPE")) (overlap_pieces conf line))) || kinds_lead (overlap_pieces conf line), BadArgument)
+    ∷ (list_any (λ (pair : RolePair). list_any (is_unknown [] (declared_names (written_file conf)) (names_of (bound_names (written_file conf)))) pair.alternatives) (pairs_of (overlap_pieces conf line)), UnknownTypeNamed)
     ∷ (list_any (λ (pair : RolePair). list_any (is_unheld [] false) pair.alternatives) (pairs_of (overlap_pieces conf line)), UnknownMacro)
     ∷ []) (
       both (is_no_name (codes "Arg1") || list_any (λ one. is_no_name (word_of one)) (written_alternatives conf line.first)) (is_no_name (codes "Arg2") || list_any (λ one. is_no_name (word_of one)) (written_alternatives conf line.second))
@@ -211,9 +211,10 @@ overlap_clean conf s line a k =
       (
         refl,
         (
-          kinds_clean line.contain line.equal line.cross line.any a.some,
+          or_from (list_any is_shapeless (overlap_pieces conf line) || not (are_arguments (pairs_of (overlap_pieces conf line))) || not (has_kinds (filter_map (keyed_value (codes "OVL-TYPE")) (overlap_pieces conf line))))
+              (kinds_lead (overlap_pieces conf line)) (kinds_clean line.contain line.equal line.cross line.any a.some) refl,
           (
-            both (list_any (is_unknown [] (names_of (bound_names (written_file conf)))) (written_alternatives conf line.first)) (list_any (is_unknown [] (names_of (bound_names (written_file conf)))) (written_alternatives conf line.second)) first.known_all second.known_all,
+            both (list_any (is_unknown [] (declared_names (written_file conf)) (names_of (bound_names (written_file conf)))) (written_alternatives conf line.first)) (list_any (is_unknown [] (declared_names (written_file conf)) (names_of (bound_names (written_file conf)))) (written_alternatives conf line.second)) first.known_all second.known_all,
             (
               both (list_any (is_unheld [] false) (written_alternatives conf line.first)) (list_any (is_unheld [] false) (written_alternatives conf line.second)) first.held second.held,
               tt,
@@ -294,7 +295,7 @@ attribute_tests conf s attribute a k b once =
     ∷ (stood_before k attribute.name (of_named (written_file conf).attributes) || list_any (λ (pair : RolePair). stands_twice (map word_of pair.alternatives)) (filter is_values (attribute_pairs_of conf attribute b)), NameTwice)
     ∷ (list_any (λ (pair : RolePair). is_none (count_of pair.mark)) (attribute_pairs_of conf attribute b), BadCount)
     ∷ (list_any is_shapeless (Pair (codes "Arg") [] (written_alternatives conf attribute.targets) ∷ values_piece attribute b) || not (is_attribute (attribute_pairs_of conf attribute b)), BadArgument)
-    ∷ (list_any (λ (pair : RolePair). list_any (is_unknown [] (all_known conf)) pair.alternatives) (filter (λ (pair : RolePair). not (is_values pair)) (attribute_pairs_of conf attribute b)), UnknownTypeNamed)
+    ∷ (list_any (λ (pair : RolePair). list_any (is_unknown [] (all_known conf) (all_known conf)) pair.alternatives) (filter (λ (pair : RolePair). not (is_values pair)) (attribute_pairs_of conf attribute b)), UnknownTypeNamed)
     ∷ (list_any (λ (pair : RolePair). list_any (is_unheld [] true) pair.alternatives) (filter (λ (pair : RolePair). not (is_values pair)) (attribute_pairs_of conf attribute b)), UnknownMacro)
     ∷ (are_past 256 k (of_named (written_file conf).attributes) || list_any (λ (pair : RolePair). nat_lt 256 (length pair.alternatives)) (filter is_values (attribute_pairs_of conf attribute b)), TooManyTypes)
     ∷ []) (
@@ -321,8 +322,8 @@ attribute_tests conf s attribute a k b once =
       ),
     )
   where
-    spoken : AreSpoken (all_known conf) true (written_alternatives conf attribute.targets)
-    spoken = are_spoken conf s true (all_known conf) (known_both conf s) attribute.targets a.targets
+    spoken : AreSpoken (all_known conf) (all_known conf) true (written_alternatives conf attribute.targets)
+    spoken = are_spoken conf s true (all_known conf) (all_known conf) (known_both conf s) attribute.targets a.targets
 
     arg_name : (is_no_name (codes "Arg") || list_any (λ one. is_no_name (word_of one)) (written_alternatives conf attribute.targets)) ≡ false
     arg_name = or_from (is_no_name (codes "Arg")) (list_any (λ one. is_no_name (word_of one)) (written_alternatives conf attribute.targets)) argument_names.2 spoken.names
@@ -354,9 +355,9 @@ attribute_tests conf s attribute a k b once =
     shaped true = refl
     shaped false = refl
 
-    unknown : (c : Bool) → list_any (λ (pair : RolePair). list_any (is_unknown [] (all_known conf)) pair.alternatives) (filter (λ (pair : RolePair). not (is_values pair)) (attribute_pairs_of conf attribute c)) ≡ false
-    unknown true = alone (list_any (is_unknown [] (all_known conf)) (written_alternatives conf attribute.targets)) spoken.known_all
-    unknown false = alone (list_any (is_unknown [] (all_known conf)) (written_alternatives conf attribute.targets)) spoken.known_all
+    unknown : (c : Bool) → list_any (λ (pair : RolePair). list_any (is_unknown [] (all_known conf) (all_known conf)) pair.alternatives) (filter (λ (pair : RolePair). not (is_values pair)) (attribute_pairs_of conf attribute c)) ≡ false
+    unknown true = alone (list_any (is_unknown [] (all_known conf) (all_known conf)) (written_alternatives conf attribute.targets)) spoken.known_all
+    unknown false = alone (list_any (is_unknown [] (all_known conf) (all_known conf)) (written_alternatives conf attribute.targets)) spoken.known_all
 
     unheld : (c : Bool) → list_any (λ (pair : RolePair). list_any (is_unheld [] true) pair.alternatives) (filter (λ (pair : RolePair). not (is_values pair)) (attribute_pairs_of conf attribute c)) ≡ false
     unheld true = alone (list_any (is_unheld [] true) (written_alternatives conf attribute.targets)) spoken.held

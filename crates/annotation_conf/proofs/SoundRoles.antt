@@ -8,7 +8,7 @@ use Rattle.std.proofs.lemmas.List.Splits.{length-slice_split}
 use Rattle.std.proofs.lemmas.List.Elements.{All-from_recursion}
 use Rattle.annotation_conf.specs.ConfPairs.{Piece, count_of}
 use Rattle.annotation_conf.specs.ConfNames.{TypeLine, NamedLine, File}
-use Rattle.annotation_conf.specs.ConfFaults.{RolePair, pairs_of, names_badly, is_no_name, word_of, is_unknown, is_unheld, bound_names, names_of, is_binary, are_arguments, is_kind, has_kinds, keyed_value, is_among, stands_twice, is_shapeless, firsts}
+use Rattle.annotation_conf.specs.ConfFaults.{RolePair, pairs_of, names_badly, is_no_name, word_of, is_unknown, is_unheld, declared_names, bound_names, names_of, is_binary, are_arguments, is_kind, has_kinds, keyed_value, is_among, stands_twice, is_shapeless, firsts}
 use Rattle.annotation_conf.specs.ConfOf.{role_of, role_at, arguments_of, relation_of, overlap_of, has_kind, resolved, configuration_of}
 use Rattle.annotation_conf.specs.Configurations.{Role, Configuration}
 use Rattle.annotation_conf.specs.Sound.{IsName, AreTargets, IsRole, AreRoles, AreArguments, IsRelation, IsOverlap}
@@ -24,7 +24,7 @@ use Rattle.annotation_conf.proofs.SoundWords.{IsSpelt, IsSpeltLine, pairs_valid}
 pub record KeepsPair (file : File) (known : List (List ℕ)) (relations : Bool) (pair : RolePair) : Type 0 where
   pub name : IsName pair.role
   pub some : 0 < length pair.alternatives
-  pub unknown : list_any (is_unknown file.macros known) pair.alternatives ≡ false
+  pub unknown : list_any (is_unknown file.macros (declared_names file) known) pair.alternatives ≡ false
   pub unheld : list_any (is_unheld file.macros relations) pair.alternatives ≡ false
 
 pub keeps_pairs : (file : File) (known : List (List ℕ)) (relations : Bool) (pairs : List RolePair) → list_any names_badly pairs ≡ false → AreKnown file known relations pairs
@@ -37,10 +37,10 @@ keeps_pairs file known relations pairs names are spelt =
       unknown = k.0;
       unheld = k.1.0;
     }) pairs (each_fails names_badly pairs names)
-    (each_both (λ (pair : RolePair). list_any (is_unknown file.macros known) pair.alternatives ≡ false)
+    (each_both (λ (pair : RolePair). list_any (is_unknown file.macros (declared_names file) known) pair.alternatives ≡ false)
     (λ (pair : RolePair). (list_any (is_unheld file.macros relations) pair.alternatives ≡ false) × IsSpelt pair.role pair.alternatives)
-    (λ (pair : RolePair). (list_any (is_unknown file.macros known) pair.alternatives ≡ false) × ((list_any (is_unheld file.macros relations) pair.alternatives ≡ false) × IsSpelt pair.role pair.alternatives))
-    (λ pair a b. (a, b)) pairs (each_fails (λ (pair : RolePair). list_any (is_unknown file.macros known) pair.alternatives) pairs are.known)
+    (λ (pair : RolePair). (list_any (is_unknown file.macros (declared_names file) known) pair.alternatives ≡ false) × ((list_any (is_unheld file.macros relations) pair.alternatives ≡ false) × IsSpelt pair.role pair.alternatives))
+    (λ pair a b. (a, b)) pairs (each_fails (λ (pair : RolePair). list_any (is_unknown file.macros (declared_names file) known) pair.alternatives) pairs are.known)
     (each_both (λ (pair : RolePair). list_any (is_unheld file.macros relations) pair.alternatives ≡ false) (λ (pair : RolePair). IsSpelt pair.role pair.alternatives)
     (λ (pair : RolePair). (list_any (is_unheld file.macros relations) pair.alternatives ≡ false) × IsSpelt pair.role pair.alternatives)
     (λ pair a b. (a, b)) pairs (each_fails (λ (pair : RolePair). list_any (is_unheld file.macros relations) pair.alternatives) pairs are.held) spelt))

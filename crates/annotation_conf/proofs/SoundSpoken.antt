@@ -9,10 +9,10 @@ use Rattle.mark_base.specs.Names.{name_fault}
 use Rattle.annotation_conf.specs.ConfPairs.{Alternative, Named, Held}
 use Rattle.annotation_conf.specs.ConfFaults.{is_among, is_unknown, is_unheld, is_no_name, is_no_declared, word_of}
 use Rattle.annotation_conf.specs.ConfLines.{is_hyphens}
-use Rattle.annotation_conf.specs.ConfText.{type_name_at, relation_name_at}
+use Rattle.annotation_conf.specs.ConfText.{type_name_at, relation_name_at, has_type_named, named_apart}
 use Rattle.annotation_conf.specs.Configurations.{Alternatives, Configuration}
 use Rattle.annotation_conf.specs.Sound.{IsDeclaredName, AreTargets, IsRelation, IsSound}
-use Rattle.annotation_conf.proofs.SoundLists.{Each-append, Each-map, each_weaker, none_passes}
+use Rattle.annotation_conf.proofs.SoundLists.{Each-append, Each-map, Each-filter, each_weaker, none_passes}
 use Rattle.annotation_conf.proofs.SoundNames.{bytes_same}
 use Rattle.annotation_conf.proofs.Written.{held_where, written_alternatives}
 
@@ -24,13 +24,14 @@ where_held P false name h = tt
 each_written : (P : Alternative → Type 0) (conf : Configuration) (named : Alternatives) → P (Held (codes "ENTITY")) → P (Held (codes "EVENT")) → P (Held (codes "ANY")) → (named.relation ≡ true → P (Held (codes "RELATION")))
     → Each (λ place. P (Named (type_name_at conf place))) named.bound → Each (λ place. P (Named (relation_name_at conf place))) named.between → Each P (written_alternatives conf named)
 each_written P conf named a b c d e f =
-    Each-append P (held_where named.entity (codes "ENTITY") ++ held_where named.event (codes "EVENT") ++ held_where named.any (codes "ANY") ++ held_where named.relation (codes "RELATION") ++ map (λ place. Named (type_name_at conf place)) named.bound) (map (λ place. Named (relation_name_at conf place)) named.between)
+    Each-append P (held_where named.entity (codes "ENTITY") ++ held_where named.event (codes "EVENT") ++ held_where named.any (codes "ANY") ++ held_where named.relation (codes "RELATION") ++ map (λ place. Named (type_name_at conf place)) named.bound) (map (λ place. Named (relation_name_at conf place)) (named_apart conf named))
     (Each-append P (held_where named.entity (codes "ENTITY") ++ held_where named.event (codes "EVENT") ++ held_where named.any (codes "ANY") ++ held_where named.relation (codes "RELATION")) (map (λ place. Named (type_name_at conf place)) named.bound)
     (Each-append P (held_where named.entity (codes "ENTITY") ++ held_where named.event (codes "EVENT") ++ held_where named.any (codes "ANY")) (held_where named.relation (codes "RELATION"))
     (Each-append P (held_where named.entity (codes "ENTITY") ++ held_where named.event (codes "EVENT")) (held_where named.any (codes "ANY"))
     (Each-append P (held_where named.entity (codes "ENTITY")) (held_where named.event (codes "EVENT")) (where_held P named.entity (codes "ENTITY") (λ s. a)) (where_held P named.event (codes "EVENT") (λ s. b)))
     (where_held P named.any (codes "ANY") (λ s. c))) (where_held P named.relation (codes "RELATION") d))
-    (Each-map P (λ place. Named (type_name_at conf place)) named.bound e)) (Each-map P (λ place. Named (relation_name_at conf place)) named.between f)
+    (Each-map P (λ place. Named (type_name_at conf place)) named.bound e)) (Each-map P (λ place. Named (relation_name_at conf place)) (named_apart conf named)
+    (Each-filter (λ place. P (Named (relation_name_at conf place))) (λ place. not (has_type_named conf named.bound (relation_name_at conf place))) named.between f))
 
 -- words that stand in any text
 pub macro_names : (is_no_name (codes "ENTITY") ≡ false) × (is_no_name (codes "EVENT") ≡ false) × (is_no_name (codes "ANY") ≡ false) × (is_no_name (codes "RELATION") ≡ false)
@@ -88,22 +89,22 @@ no_between : (conf : Configuration) (named : Alternatives) → AreTargets conf f
 no_between conf named sound = sym sound.between
 
 -- written alternatives have no fault
-pub record AreSpoken (known : List (List ℕ)) (relations : Bool) (alternatives : List Alternative) : Type 0 where
+pub record AreSpoken (declared known : List (List ℕ)) (relations : Bool) (alternatives : List Alternative) : Type 0 where
   pub names : list_any (λ one. is_no_name (word_of one)) alternatives ≡ false
-  pub known_all : list_any (is_unknown [] known) alternatives ≡ false
+  pub known_all : list_any (is_unknown [] declared known) alternatives ≡ false
   pub held : list_any (is_unheld [] relations) alternatives ≡ false
 
-pub are_spoken : (conf : Configuration) → IsSound conf → (relations : Bool) (known : List (List ℕ)) → Knows conf relations known → (named : Alternatives) → AreTargets conf relations named
-    → AreSpoken known relations (written_alternatives conf named)
-are_spoken conf h relations known knows named sound = record {
+pub are_spoken : (conf : Configuration) → IsSound conf → (relations : Bool) (declared known : List (List ℕ)) → Knows conf relations known → (named : Alternatives) → AreTargets conf relations named
+    → AreSpoken declared known relations (written_alternatives conf named)
+are_spoken conf h relations declared known knows named sound = record {
   names =
       none_passes (λ one. is_no_name (word_of one)) (written_alternatives conf named)
       (each_written (λ one. is_no_name (word_of one) ≡ false) conf named macro_names.0 macro_names.1 macro_names.2 (λ e. macro_names.3)
       (each_weaker (λ place. place < length conf.types) (λ place. is_no_name (type_name_at conf place) ≡ false) (λ place lt. declared_name (type_name_at conf place) (type_name_is conf h place lt)) named.bound bound)
       (each_weaker (λ place. place < length conf.relations) (λ place. is_no_name (relation_name_at conf place) ≡ false) (λ place lt. declared_name (relation_name_at conf place) (relation_name_is conf h place lt)) named.between between));
   known_all =
-      none_passes (is_unknown [] known) (written_alternatives conf named)
-      (each_written (λ one. is_unknown [] known one ≡ false) conf named refl refl refl (λ e. refl)
+      none_passes (is_unknown [] declared known) (written_alternatives conf named)
+      (each_written (λ one. is_unknown [] declared known one ≡ false) conf named refl refl refl (λ e. refl)
       (each_weaker (λ place. place < length conf.types) (λ place. not (is_among known (type_name_at conf place)) ≡ false) (λ place lt. not_from_true (is_among known (type_name_at conf place)) (knows.types place lt)) named.bound bound)
       (known_between relations knows sound));
   held =

@@ -67,7 +67,7 @@ events_find entities events steps k line e =
 
 -- a type line without its number and what follows its name
 abbrev pub bare : TypeLine → TypeLine
-bare line = record { number = 0; depth = line.depth; spaced = false; usable = line.usable; name = line.name; pieces = [] }
+bare line = record { number = 0; depth = line.depth; spaced = false; gapped = false; usable = line.usable; name = line.name; pieces = [] }
 
 pub bare_rows : (rows : List TypeRow) (first : ℕ) (event : Bool) (all before lines : List TypeLine) (place : ℕ) → all ≡ before ++ lines → first + length before ≡ place
     → ((k : ℕ) (line : TypeLine) → slice_get all k ≡ Some line → depth_by (length rows) rows (first + k) ≡ line.depth)
@@ -76,7 +76,7 @@ bare_rows rows first event all before [] place is at deep = refl
 bare_rows rows first event all before (line ∷ lines) place is at deep =
     let here : slice_get all (length before) ≡ Some line = ap (λ ls. slice_get ls (length before)) is ∙ at_seam before in
     let own : depth_by (length rows) rows place ≡ line.depth = ap (depth_by (length rows) rows) (sym at) ∙ deep (length before) line here in
-    ap₂ (λ (d : ℕ) (ls : List TypeLine). record { number = 0; depth = d; spaced = false; usable = line.usable; name = line.name; pieces = [] } ∷ ls) own
+    ap₂ (λ (d : ℕ) (ls : List TypeLine). record { number = 0; depth = d; spaced = false; gapped = false; usable = line.usable; name = line.name; pieces = [] } ∷ ls) own
     (bare_rows rows first event all (before ++ line ∷ []) lines (place + 1) (is ∙ sym (append_assoc before (line ∷ []) lines)) (omega (arith, length_push before line)) deep)
   where
     at_seam : (xs : List TypeLine) → slice_get (xs ++ line ∷ lines) (length xs) ≡ Some line

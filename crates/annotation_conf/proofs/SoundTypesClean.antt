@@ -10,7 +10,7 @@ use Rattle.type_hierarchy.specs.declared.type_row.TypeRow.{TypeRow}
 use Rattle.annotation_conf.specs.declared.conf_fault.ConfWhat.TheVariants.{BadIndent, BadName, NameTwice, BadCount, BadArgument, UnknownTypeNamed, UnknownMacro, TooManyTypes}
 use Rattle.annotation_conf.specs.ConfPairs.{count_of}
 use Rattle.annotation_conf.specs.ConfNames.{TypeLine}
-use Rattle.annotation_conf.specs.ConfFaults.{RolePair, Declared, pairs_of, is_too_deep, line_before, is_no_name, is_no_declared, names_badly, stood_before, bound_names, stands_twice, is_unknown, is_unheld, names_of, of_types, are_past, is_shapeless, word_of, type_fault}
+use Rattle.annotation_conf.specs.ConfFaults.{RolePair, Declared, pairs_of, is_too_deep, line_before, is_no_name, is_no_declared, names_badly, stood_before, bound_names, stands_twice, declared_names, is_unknown, is_unheld, names_of, of_types, are_past, is_shapeless, word_of, type_fault}
 use Rattle.annotation_conf.specs.ConfOf.{rows_from, configuration_of}
 use Rattle.annotation_conf.specs.ConfText.{mark_text}
 use Rattle.annotation_conf.specs.Configurations.{Role, Configuration}
@@ -70,18 +70,18 @@ usable_few conf s =
     omega arith
 
 -- a written role has no fault
-pub record IsSpokenPair (known : List (List ℕ)) (relations : Bool) (pair : RolePair) : Type 0 where
+pub record IsSpokenPair (declared known : List (List ℕ)) (relations : Bool) (pair : RolePair) : Type 0 where
   pub name : names_badly pair ≡ false
   pub count : is_none (count_of pair.mark) ≡ false
-  pub unknown : list_any (is_unknown [] known) pair.alternatives ≡ false
+  pub unknown : list_any (is_unknown [] declared known) pair.alternatives ≡ false
   pub unheld : list_any (is_unheld [] relations) pair.alternatives ≡ false
 
 pub known_types : (conf : Configuration) → IsSound conf → Knows conf false (names_of (bound_names (written_file conf)))
 known_types conf s = knows_types conf (names_of (bound_names (written_file conf))) (type_names_again conf s)
 
-role_spoken : (conf : Configuration) → IsSound conf → (role : Role) → IsRole conf role → IsSpokenPair (names_of (bound_names (written_file conf))) false (role_written conf role)
+role_spoken : (conf : Configuration) → IsSound conf → (role : Role) → IsRole conf role → IsSpokenPair (declared_names (written_file conf)) (names_of (bound_names (written_file conf))) false (role_written conf role)
 role_spoken conf s role a =
-    let spoken = are_spoken conf s false (names_of (bound_names (written_file conf))) (known_types conf s) role.targets a.targets in
+    let spoken = are_spoken conf s false (declared_names (written_file conf)) (names_of (bound_names (written_file conf))) (known_types conf s) role.targets a.targets in
     record {
       name = or_from (is_no_name role.name) (list_any (λ one. is_no_name (word_of one)) (written_alternatives conf role.targets)) a.name.faultless spoken.names;
       count = ap is_none (count_again role.least role.most a.count);
@@ -101,6 +101,7 @@ record SaysRoles (conf : Configuration) (line : TypeLine) : Type 0 where
 -- a line of a type that is in order
 record IsOrderly (conf : Configuration) (section : List TypeLine) (line : TypeLine) : Type 0 where
   spaced : line.spaced ≡ false
+  gapped : line.gapped ≡ false
   deep : is_too_deep line.depth (line_before line.number section) ≡ false
   name : is_no_declared line.name ≡ false
   once : stood_before line.number line.name (bound_names (written_file conf)) ≡ false
@@ -111,17 +112,17 @@ type_clean : (conf : Configuration) → IsSound conf → (section : List TypeLin
 type_clean conf s section line roles o each differ few shapeless shaped =
     none_told (
     (line.spaced || is_too_deep line.depth (line_before line.number section), BadIndent)
-    ∷ (is_no_declared line.name || list_any names_badly (map (role_written conf) roles), BadName)
+    ∷ (line.gapped || is_no_declared line.name || list_any names_badly (map (role_written conf) roles), BadName)
     ∷ (stood_before line.number line.name (bound_names (written_file conf)) || stands_twice (map (λ (pair : RolePair). pair.role) (map (role_written conf) roles)), NameTwice)
     ∷ (list_any (λ (pair : RolePair). is_none (count_of pair.mark)) (map (role_written conf) roles), BadCount)
     ∷ (shapeless, BadArgument)
-    ∷ (list_any (λ (pair : RolePair). list_any (is_unknown [] (names_of (bound_names (written_file conf)))) pair.alternatives) (map (role_written conf) roles), UnknownTypeNamed)
+    ∷ (list_any (λ (pair : RolePair). list_any (is_unknown [] (declared_names (written_file conf)) (names_of (bound_names (written_file conf)))) pair.alternatives) (map (role_written conf) roles), UnknownTypeNamed)
     ∷ (list_any (λ (pair : RolePair). list_any (is_unheld [] false) pair.alternatives) (map (role_written conf) roles), UnknownMacro)
     ∷ (are_past 256 line.number (bound_names (written_file conf)) || are_past 63 line.number (of_types (filter (λ (one : TypeLine). one.usable) ((written_file conf).entities ++ (written_file conf).events))) || nat_lt 256 (length (map (role_written conf) roles)), TooManyTypes)
     ∷ []) (
       or_from line.spaced (is_too_deep line.depth (line_before line.number section)) o.spaced o.deep,
       (
-        or_from (is_no_declared line.name) (list_any names_badly (map (role_written conf) roles)) o.name (of_pairs names_badly (λ pair k. k.name)),
+        or_from (line.gapped || is_no_declared line.name) (list_any names_badly (map (role_written conf) roles)) (or_from line.gapped (is_no_declared line.name) o.gapped o.name) (of_pairs names_badly (λ pair k. k.name)),
         (
           or_from (stood_before line.number line.name (bound_names (written_file conf))) (stands_twice (map (λ (pair : RolePair). pair.role) (map (role_written conf) roles))) o.once
               (ap stands_twice (map-map (λ (pair : RolePair). pair.role) (role_written conf) roles) ∙ differ),
@@ -130,7 +131,7 @@ type_clean conf s section line roles o each differ few shapeless shaped =
             (
               shaped,
               (
-                of_pairs (λ (pair : RolePair). list_any (is_unknown [] (names_of (bound_names (written_file conf)))) pair.alternatives) (λ pair k. k.unknown),
+                of_pairs (λ (pair : RolePair). list_any (is_unknown [] (declared_names (written_file conf)) (names_of (bound_names (written_file conf)))) pair.alternatives) (λ pair k. k.unknown),
                 (
                   of_pairs (λ (pair : RolePair). list_any (is_unheld [] false) pair.alternatives) (λ pair k. k.unheld),
                   (
@@ -149,14 +150,14 @@ type_clean conf s section line roles o each differ few shapeless shaped =
       ),
     )
   where
-    spoken : Each (IsSpokenPair (names_of (bound_names (written_file conf))) false) (map (role_written conf) roles)
+    spoken : Each (IsSpokenPair (declared_names (written_file conf)) (names_of (bound_names (written_file conf))) false) (map (role_written conf) roles)
     spoken =
-        Each-map (IsSpokenPair (names_of (bound_names (written_file conf))) false) (role_written conf) roles
-        (each_weaker (IsRole conf) (λ role. IsSpokenPair (names_of (bound_names (written_file conf))) false (role_written conf role)) (λ role a. role_spoken conf s role a) roles each)
+        Each-map (IsSpokenPair (declared_names (written_file conf)) (names_of (bound_names (written_file conf))) false) (role_written conf) roles
+        (each_weaker (IsRole conf) (λ role. IsSpokenPair (declared_names (written_file conf)) (names_of (bound_names (written_file conf))) false (role_written conf role)) (λ role a. role_spoken conf s role a) roles each)
 
-    of_pairs : (p : RolePair → Bool) → ((pair : RolePair) → IsSpokenPair (names_of (bound_names (written_file conf))) false pair → p pair ≡ false) → list_any p (map (role_written conf) roles) ≡ false
+    of_pairs : (p : RolePair → Bool) → ((pair : RolePair) → IsSpokenPair (declared_names (written_file conf)) (names_of (bound_names (written_file conf))) false pair → p pair ≡ false) → list_any p (map (role_written conf) roles) ≡ false
     of_pairs p h =
-        none_passes p (map (role_written conf) roles) (each_weaker (IsSpokenPair (names_of (bound_names (written_file conf))) false) (λ pair. p pair ≡ false) (λ pair k. h pair k) (map (role_written conf) roles) spoken)
+        none_passes p (map (role_written conf) roles) (each_weaker (IsSpokenPair (declared_names (written_file conf)) (names_of (bound_names (written_file conf))) false) (λ pair. p pair ≡ false) (λ pair k. h pair k) (map (role_written conf) roles) spoken)
 
 -- lines in order
 once_all : (conf : Configuration) → IsSound conf → Each (λ (d : Declared). stood_before d.number d.name (bound_names (written_file conf)) ≡ false) (of_types (written_file conf).entities ++ of_types (written_file conf).events)
@@ -179,10 +180,10 @@ orderly : (conf : Configuration) (number : ℕ) (rows : List (ℕ × TypeRow)) �
     → Each (IsOrderly conf (numbered (written_type conf) number rows)) (numbered (written_type conf) number rows)
 orderly conf number rows named steps once =
     let lines : List TypeLine = numbered (written_type conf) number rows in
-    each_both (λ (line : TypeLine). (line.spaced ≡ false) × (is_no_declared line.name ≡ false)) (λ (line : TypeLine). (is_too_deep line.depth (line_before line.number (numbered (written_type conf) number rows)) ≡ false) × (stood_before line.number line.name (bound_names (written_file conf)) ≡ false))
-    (IsOrderly conf (numbered (written_type conf) number rows)) (λ line a b. record { spaced = a.0; deep = b.0; name = a.1; once = b.1 }) (numbered (written_type conf) number rows)
-    (Each-numbered (written_type conf) (λ (line : TypeLine). (line.spaced ≡ false) × (is_no_declared line.name ≡ false)) number rows
-    (each_weaker (λ (placed : ℕ × TypeRow). IsDeclaredName placed.1.name) (λ (placed : ℕ × TypeRow). (k : ℕ) → (false ≡ false) × (is_no_declared placed.1.name ≡ false)) (λ placed d k. (refl, d.faultless)) rows named))
+    each_both (λ (line : TypeLine). (line.spaced ≡ false) × ((line.gapped ≡ false) × (is_no_declared line.name ≡ false))) (λ (line : TypeLine). (is_too_deep line.depth (line_before line.number (numbered (written_type conf) number rows)) ≡ false) × (stood_before line.number line.name (bound_names (written_file conf)) ≡ false))
+    (IsOrderly conf (numbered (written_type conf) number rows)) (λ line a b. record { spaced = a.0; gapped = a.1.0; deep = b.0; name = a.1.1; once = b.1 }) (numbered (written_type conf) number rows)
+    (Each-numbered (written_type conf) (λ (line : TypeLine). (line.spaced ≡ false) × ((line.gapped ≡ false) × (is_no_declared line.name ≡ false))) number rows
+    (each_weaker (λ (placed : ℕ × TypeRow). IsDeclaredName placed.1.name) (λ (placed : ℕ × TypeRow). (k : ℕ) → (false ≡ false) × ((false ≡ false) × (is_no_declared placed.1.name ≡ false))) (λ placed d k. (refl, (refl, d.faultless))) rows named))
     (each_both (λ (line : TypeLine). is_too_deep line.depth (line_before line.number (numbered (written_type conf) number rows)) ≡ false) (λ (line : TypeLine). stood_before line.number line.name (bound_names (written_file conf)) ≡ false) _ (λ line a b. (a, b)) (numbered (written_type conf) number rows)
     (never_deep (numbered (written_type conf) number rows) [] (numbered (written_type conf) number rows) refl (Ascend-numbered (written_type conf) (λ (line : TypeLine). line.number) (λ k row. refl) number rows)
     (sym (steps_down-bare 0 (numbered (written_type conf) number rows)) ∙ steps)) once)

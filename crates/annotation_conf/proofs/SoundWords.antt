@@ -102,8 +102,9 @@ pub record IsSpeltLine (word : List ℕ) (behind : List Piece) : Type 0 where
 type_valid : (number : ℕ) (cs : List ℕ) → scalars cs ≡ true → IsSpeltLine (type_line number cs).name (type_line number cs).pieces
 type_valid number cs e =
     let depth = position_or_len (λ c. not (c == 9)) cs in
-    let body = drop depth cs in
-    let body_valid : scalars (drop (position_or_len (λ c. not (c == 9)) cs) cs) ≡ true = scalars-drop (position_or_len (λ c. not (c == 9)) cs) cs e in
+    let body = skip_leading_whitespace (drop depth cs) in
+    let body_valid : scalars (skip_leading_whitespace (drop (position_or_len (λ c. not (c == 9)) cs) cs)) ≡ true =
+    scalars-skip (drop (position_or_len (λ c. not (c == 9)) cs) cs) (scalars-drop (position_or_len (λ c. not (c == 9)) cs) cs e) in
     cond_both (slice_index body 0 == 33) (drop 1 body) body (λ named. IsSpeltLine (encode_utf8_all (before_first is_whitespace named)) (pieces_of (drop (position_or_len is_whitespace named) named)))
     (λ f. of_named (drop 1 body) (scalars-drop 1 body body_valid)) (λ f. of_named body body_valid)
   where

@@ -8,7 +8,7 @@ use Rattle.annotation_conf.specs.ConfLines.{Section, Entities, Relations, Events
 use Rattle.annotation_conf.specs.ConfPairs.{Alternative, Named, Held, Piece, Keyed, Pair}
 use Rattle.annotation_conf.specs.ConfNames.{TypeLine, NamedLine, File}
 use Rattle.annotation_conf.specs.ConfFaults.{is_no_declared}
-use Rattle.annotation_conf.specs.ConfText.{depth_by, with_commas, where_so, type_name_at, relation_name_at, mark_text, pair_text, role_text}
+use Rattle.annotation_conf.specs.ConfText.{depth_by, with_commas, where_so, type_name_at, relation_name_at, named_apart, mark_text, pair_text, role_text}
 use Rattle.annotation_conf.specs.Configurations.{Alternatives, Role, Arguments, RelationType, AttributeType, Overlap, Configuration}
 
 -- The rows that are written, section by section.
@@ -48,12 +48,12 @@ attributes_head conf = events_head conf + length (event_rows conf) + 1
 abbrev pub held_where : Bool → List ℕ → List Alternative
 held_where so name = if so then Held name ∷ [] else []
 
--- alternatives: the built-in macros, then types, then relation types
+-- alternatives: the built-in macros, then types, then relation types whose names no type has
 abbrev pub written_alternatives : Configuration → Alternatives → List Alternative
 written_alternatives conf named =
     held_where named.entity (codes "ENTITY") ++ held_where named.event (codes "EVENT") ++ held_where named.any (codes "ANY")
     ++ held_where named.relation (codes "RELATION") ++ map (λ place. Named (type_name_at conf place)) named.bound
-    ++ map (λ place. Named (relation_name_at conf place)) named.between
+    ++ map (λ place. Named (relation_name_at conf place)) (named_apart conf named)
 
 -- a role without a mark, and a role of an event type
 abbrev pub written_pair : Configuration → List ℕ → Alternatives → Piece
@@ -87,6 +87,7 @@ written_type conf number placed = record {
   number = number;
   depth = depth_by (length conf.types) conf.types placed.0;
   spaced = false;
+  gapped = false;
   usable = placed.1.usable;
   name = placed.1.name;
   pieces = map (written_role conf) (roles_at conf placed.0);

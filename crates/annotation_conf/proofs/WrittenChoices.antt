@@ -9,8 +9,9 @@ use Rattle.std.specs.List.{list_all, join_with_byte, AllByRecursion, AllZip}
 use Rattle.mark_base.specs.Names.{is_barred}
 use Rattle.annotation_conf.specs.ConfLines.{is_enclosed, enclosed}
 use Rattle.annotation_conf.specs.ConfPairs.{Alternative, Named, Held, alternative_of, alternatives_of}
-use Rattle.annotation_conf.specs.ConfText.{where_so, type_name_at, relation_name_at, alternatives_text}
+use Rattle.annotation_conf.specs.ConfText.{where_so, type_name_at, relation_name_at, alternatives_text, has_type_named, named_apart}
 use Rattle.annotation_conf.specs.Configurations.{Alternatives, RelationType, Configuration}
+use Rattle.annotation_conf.proofs.SoundLists.{Each-filter}
 use Rattle.annotation_conf.proofs.Written.{IsWord, IsDeclaredWord, IsSpelledChoice, IsSpelledRelation, IsSpelled, held_where, written_alternatives}
 use Rattle.annotation_conf.proofs.WrittenLists.{none-append, none_less, is_other, split_joined}
 use Rattle.annotation_conf.proofs.WrittenNames.{Spells, spells-append, spells_chars, spells_valid, spells_name, spells_plain, is_wide, name_free, declared_word}
@@ -119,7 +120,7 @@ relation_words conf (relation ∷ relations) h = (h.0.word, relation_words conf 
 abbrev pub choice_words : Configuration → Alternatives → List (List ℕ)
 choice_words conf named =
     where_so named.entity (codes "<ENTITY>") ++ where_so named.event (codes "<EVENT>") ++ where_so named.any (codes "<ANY>")
-    ++ where_so named.relation (codes "<RELATION>") ++ map (type_name_at conf) named.bound ++ map (relation_name_at conf) named.between
+    ++ where_so named.relation (codes "<RELATION>") ++ map (type_name_at conf) named.bound ++ map (relation_name_at conf) (named_apart conf named)
 
 pub choices_read : (conf : Configuration) → IsSpelled conf → (named : Alternatives) → IsSpelledChoice conf named → AllZip IsAlternativeOf (choice_words conf named) (written_alternatives conf named)
 choices_read conf spelled named h =
@@ -131,7 +132,8 @@ choices_read conf spelled named h =
     (where_read named.any (codes "<ANY>") (codes "ANY") any_read))
     (where_read named.relation (codes "<RELATION>") (codes "RELATION") relation_read))
     (places_read (type_name_at conf) (length conf.types) (word_at (λ row. row.name) conf.types spelled.types) named.bound h.bound))
-    (places_read (relation_name_at conf) (length conf.relations) (word_at (λ relation. relation.name) conf.relations (relation_words conf conf.relations spelled.relations)) named.between h.between)
+    (places_read (relation_name_at conf) (length conf.relations) (word_at (λ relation. relation.name) conf.relations (relation_words conf conf.relations spelled.relations)) (named_apart conf named)
+    (Each-filter (λ place. place < length conf.relations) (λ place. not (has_type_named conf named.bound (relation_name_at conf place))) named.between h.between))
 
 -- texts that a byte joins, by their characters
 pub spells_joined : (k : ℕ) → k < 128 → (texts : List (List ℕ)) → AllByRecursion IsUtf8 texts → Spells (join_with_byte k texts) (join_with_byte k (map chars texts))

@@ -189,24 +189,27 @@ no_space_first zero cs opens = is_other is_whitespace 32 refl (slice_index cs 0)
 no_space_first (suc depth) cs opens = refl
 
 -- a type line by its depth and what follows its TABs
-abbrev typed : ℕ → ℕ → Bool → List ℕ → TypeLine
-typed number depth spaced cs =
+abbrev typed : ℕ → ℕ → Bool → Bool → List ℕ → TypeLine
+typed number depth spaced gapped cs =
     let named = if slice_index cs 0 == 33 then drop 1 cs else cs in
     record {
       number = number;
       depth = depth;
       spaced = spaced;
+      gapped = gapped;
       usable = not (slice_index cs 0 == 33);
       name = encode_utf8_all (before_first is_whitespace named);
       pieces = pieces_of (drop (position_or_len is_whitespace named) named);
     }
 
-type_apart : (number depth : ℕ) (cs : List ℕ) → IsVisible cs → type_line number (replicate depth 9 ++ cs) ≡ typed number depth false cs
+type_apart : (number depth : ℕ) (cs : List ℕ) → IsVisible cs → type_line number (replicate depth 9 ++ cs) ≡ typed number depth false false cs
 type_apart number depth cs h =
     let line = replicate depth 9 ++ cs in
     let counted = tabs_counted depth cs h.some h.opens in
     let dropped : drop (position_or_len (λ c. not (c == 9)) line) line ≡ cs = ap (λ n. drop n line) counted ∙ drop_tabs depth cs in
-    λ i. typed number (counted i) (no_space_first depth cs h.opens i) (dropped i)
+    let seen = ap skip_leading_whitespace dropped ∙ skip_none cs h.opens in
+    let bare = ap (λ ds. is_whitespace (slice_index ds 0)) dropped ∙ h.opens in
+    λ i. typed number (counted i) (no_space_first depth cs h.opens i) (bare i) (seen i)
 
 -- a type line by whether a `!` stands before its name
 abbrev marked : ℕ → ℕ → Bool → List ℕ → TypeLine
@@ -214,17 +217,19 @@ marked number depth barred named = record {
   number = number;
   depth = depth;
   spaced = false;
+  gapped = false;
   usable = not barred;
   name = encode_utf8_all (before_first is_whitespace named);
   pieces = pieces_of (drop (position_or_len is_whitespace named) named);
 }
 
 type_named : (number depth : ℕ) (barred : Bool) (name t word : List ℕ) (pieces : List Piece) → NonePass is_whitespace name → OpensByTab t → encode_utf8_all name ≡ word → pieces_of t ≡ pieces
-    → marked number depth barred (name ++ t) ≡ record { number = number; depth = depth; spaced = false; usable = not barred; name = word; pieces = pieces }
+    → marked number depth barred (name ++ t) ≡ record { number = number; depth = depth; spaced = false; gapped = false; usable = not barred; name = word; pieces = pieces }
 type_named number depth barred name t word pieces h opens spelt read = λ i. record {
   number = number;
   depth = depth;
   spaced = false;
+  gapped = false;
   usable = not barred;
   name = (ap encode_utf8_all (before_opened is_whitespace name t h (opens_blank t opens)) ∙ spelt) i;
   pieces = (ap pieces_of (from_opened is_whitespace name t h (opens_blank t opens)) ∙ read) i;
@@ -237,10 +242,10 @@ tabs_none p h (suc depth) = (h, tabs_none p h depth)
 -- a text that is read as a type line
 pub record IsTypeText (text : List ℕ) (depth : ℕ) (usable : Bool) (name : List ℕ) (pieces : List Piece) : Type 0 where
   pub content : IsContent text
-  pub read : (number : ℕ) → type_line number (chars text) ≡ record { number = number; depth = depth; spaced = false; usable = usable; name = name; pieces = pieces }
+  pub read : (number : ℕ) → type_line number (chars text) ≡ record { number = number; depth = depth; spaced = false; gapped = false; usable = usable; name = name; pieces = pieces }
 
 type_from : (text behind_tabs name : List ℕ) (depth : ℕ) (usable : Bool) (pieces : List Piece) (cs : List ℕ) → Spells behind_tabs cs → text ≡ replicate depth 9 ++ behind_tabs → NonePass is_end cs
-    → IsVisible cs → ((number : ℕ) → typed number depth false cs ≡ record { number = number; depth = depth; spaced = false; usable = usable; name = name; pieces = pieces })
+    → IsVisible cs → ((number : ℕ) → typed number depth false false cs ≡ record { number = number; depth = depth; spaced = false; gapped = false; usable = usable; name = name; pieces = pieces })
     → IsTypeText text depth usable name pieces
 type_from text behind_tabs name depth usable pieces cs spelt is unbroken visible read =
     let tabs = replicate depth 9 in

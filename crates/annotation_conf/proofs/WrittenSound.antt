@@ -1,10 +1,10 @@
 -- A configuration that is sound is spelled by its canonical text.
-use Rattle.std.proofs.Common.{◌≡◌, ℕ, suc, Bool, true, false, ◌||◌, List, [], ◌∷◌, ◌++◌, length, arith, ◌<◌, codes, map, nat_lt, All}
+use Rattle.std.proofs.Common.{◌≡◌, ℕ, suc, Bool, true, false, not, ◌||◌, List, [], ◌∷◌, ◌++◌, length, arith, ◌<◌, codes, map, filter, nat_lt, All}
 use Rattle.std.proofs.lemmas.Bool.{false≢true}
 use Rattle.std.specs.List.{AllByRecursion}
 use Rattle.mark_base.specs.Names.{name_fault}
 use Rattle.annotation_conf.specs.ConfPairs.{Named}
-use Rattle.annotation_conf.specs.ConfText.{type_name_at, relation_name_at}
+use Rattle.annotation_conf.specs.ConfText.{type_name_at, relation_name_at, has_type_named}
 use Rattle.annotation_conf.specs.Configurations.{Alternatives, Role, Arguments, RelationType, AttributeType, Overlap, Configuration}
 use Rattle.annotation_conf.specs.Sound.{IsName, IsDeclaredName, AreTargets, IsRole, AreRoles, AreArguments, IsRelation, IsAttribute, IsOverlap, IsSound}
 use Rattle.annotation_conf.proofs.Written.{held_where, IsWord, IsDeclaredWord, IsSpelledChoice, IsSpelledRole, IsSpelledArguments, IsSpelledRelation, IsSpelledAttribute, IsSpelledOverlap, IsSpelled}
@@ -29,7 +29,7 @@ some_written : (conf : Configuration) (entity event any relation : Bool) (bound 
     → (entity || event || any || relation || nat_lt 0 (length bound) || nat_lt 0 (length between)) ≡ true
     → 0 < length
     (held_where entity (codes "ENTITY") ++ held_where event (codes "EVENT") ++ held_where any (codes "ANY") ++ held_where relation (codes "RELATION")
-    ++ map (λ place. Named (type_name_at conf place)) bound ++ map (λ place. Named (relation_name_at conf place)) between)
+    ++ map (λ place. Named (type_name_at conf place)) bound ++ map (λ place. Named (relation_name_at conf place)) (filter (λ place. not (has_type_named conf bound (relation_name_at conf place))) between))
 some_written conf true event any relation bound between h = omega arith
 some_written conf false true any relation bound between h = omega arith
 some_written conf false false true relation bound between h = omega arith

@@ -1,4 +1,4 @@
--- The places of the types and relation types that alternatives hold.
+-- The places of the types and relation types that alternatives hold (private calls only).
 use Rattle.std.specs.Prelude.{◌≡◌, ℕ, ◌≤◌, false, List, [], ◌∷◌, Option, length, take, map, bytes_eq}
 use Rattle.std.specs.List.{position_from}
 use Rattle.std.specs.Option.{option_map_or}

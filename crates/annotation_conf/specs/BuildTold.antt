@@ -1,4 +1,4 @@
--- What lines say by the values that are kept of them.
+-- What lines say by the values that are kept of them (private calls only).
 use Rattle.std.specs.Prelude.{◌≡◌, ℕ, ◌-◌, Option, None, Ok, option_map, ◌&&◌, ◌==◌, Bool, true, not, List, [], ◌∷◌, map, filter, bytes_eq, codes, if◌then◌else◌}
 use Rattle.std.specs.List.{list_any, slice_split}
 use Rattle.annotation_conf.specs.declared.pieces.Alternative.{Alternative as AlternativeValue}
@@ -73,7 +73,7 @@ roles_kept file line = map (λ pair. role_of file (seen_pair pair)) line.pieces.
 
 -- a type line without its roles
 abbrev pub bare_type : TypeLineValue → TypeLine
-bare_type line = record { number = line.number; depth = line.depth; spaced = line.spaced; usable = line.usable; name = line.name; pieces = [] }
+bare_type line = record { number = line.number; depth = line.depth; spaced = line.spaced; gapped = line.gapped; usable = line.usable; name = line.name; pieces = [] }
 
 -- a map from each depth to the place of the last line that stands so deep
 abbrev pub FindsDepths : ℕ → List TypeLine → BTreeMap ℕ ℕ → Type 0

@@ -94,10 +94,10 @@ keyed_value key (Pair _ _ _) = None
 abbrev pub names_badly : RolePair → Bool
 names_badly pair = is_no_name pair.role || list_any (λ one. is_no_name (word_of one)) pair.alternatives
 
--- an alternative names what is not among the names that may stand there
-abbrev pub is_unknown : List MacroLine → List (List ℕ) → Alternative → Bool
-is_unknown macros known (Named name) = not (is_among known name)
-is_unknown macros known (Held name) = option_map_or (λ holding. list_any (λ held. not (is_among known held)) holding.names) (macro_named macros name) false
+-- an alternative names what is not among the names that may stand there; a macro, what is declared and may not stand there, since the line of a macro that holds an undeclared name has that fault
+abbrev pub is_unknown : List MacroLine → List (List ℕ) → List (List ℕ) → Alternative → Bool
+is_unknown macros declared known (Named name) = not (is_among known name)
+is_unknown macros declared known (Held name) = option_map_or (λ holding. list_any (λ held. is_among declared held && not (is_among known held)) holding.names) (macro_named macros name) false
 
 -- an alternative is a macro that is not defined, or one that holds all relation types where they may not stand
 abbrev pub is_unheld : List MacroLine → Bool → Alternative → Bool
@@ -111,6 +111,10 @@ bound_names file = of_types file.entities ++ of_types file.events
 -- names without their lines
 abbrev pub names_of : List Declared → List (List ℕ)
 names_of declared = map (λ one. one.name) declared
+
+-- the names of entity, event and relation types
+abbrev pub declared_names : File → List (List ℕ)
+declared_names file = names_of (bound_names file ++ of_named file.relations)
 
 -- more than one deeper than the type line before
 abbrev pub is_too_deep : ℕ → Option TypeLine → Bool
@@ -130,11 +134,11 @@ abbrev pub type_fault : File → List TypeLine → List RolePair → Bool → Ty
 type_fault file section pairs shapeless line =
     first_told (
     (line.spaced || is_too_deep line.depth (line_before line.number section), BadIndent)
-    ∷ (is_no_declared line.name || list_any names_badly pairs, BadName)
+    ∷ (line.gapped || is_no_declared line.name || list_any names_badly pairs, BadName)
     ∷ (stood_before line.number line.name (bound_names file) || stands_twice (map (λ pair. pair.role) pairs), NameTwice)
     ∷ (list_any (λ pair. is_none (count_of pair.mark)) pairs, BadCount)
     ∷ (shapeless, BadArgument)
-    ∷ (list_any (λ pair. list_any (is_unknown file.macros (names_of (bound_names file))) pair.alternatives) pairs, UnknownTypeNamed)
+    ∷ (list_any (λ pair. list_any (is_unknown file.macros (declared_names file) (names_of (bound_names file))) pair.alternatives) pairs, UnknownTypeNamed)
     ∷ (list_any (λ pair. list_any (is_unheld file.macros false) pair.alternatives) pairs, UnknownMacro)
     ∷ (
       are_past 256 line.number (bound_names file)
@@ -144,7 +148,6 @@ type_fault file section pairs shapeless line =
     )
     ∷ [])
 
--- whether the first line of a relation type has the same roles in the same order and the same mark of an equivalence
 -- a line marks an equivalence
 abbrev pub is_equivalence_line : List Piece → Bool
 is_equivalence_line pieces = list_any (λ piece. option_map_or (λ value. bytes_eq value (codes "symmetric-transitive")) (keyed_value (codes "REL-TYPE") piece) false) pieces
@@ -187,7 +190,7 @@ relation_fault file line =
     (is_no_declared line.name || list_any names_badly pairs, BadName)
     ∷ (list_any (λ pair. is_none (count_of pair.mark)) pairs, BadCount)
     ∷ (list_any is_shapeless line.pieces || not (is_binary pairs) || not (option_map_or (agrees line) (first_line file.relations line.name) true), BadArgument)
-    ∷ (list_any (λ pair. list_any (is_unknown file.macros (names_of (bound_names file))) pair.alternatives) pairs, UnknownTypeNamed)
+    ∷ (list_any (λ pair. list_any (is_unknown file.macros (declared_names file) (names_of (bound_names file))) pair.alternatives) pairs, UnknownTypeNamed)
     ∷ (list_any (λ pair. list_any (is_unheld file.macros false) pair.alternatives) pairs, UnknownMacro)
     ∷ (are_past 256 line.number (of_named (firsts file.relations)), TooManyTypes)
     ∷ [])
@@ -205,21 +208,38 @@ abbrev pub has_kinds : List (List ℕ) → Bool
 has_kinds (value ∷ []) = are_kinds value
 has_kinds _ = false
 
+-- a pair of kinds
+abbrev pub is_kinds : Piece → Bool
+is_kinds Shapeless = false
+is_kinds (Keyed key value) = bytes_eq key (codes "OVL-TYPE")
+is_kinds (Pair _ _ _) = false
+
+-- a role pair
+abbrev pub is_pair : Piece → Bool
+is_pair Shapeless = false
+is_pair (Keyed _ _) = false
+is_pair (Pair _ _ _) = true
+
+-- a role pair stands behind a pair of kinds
+abbrev pub kinds_lead : List Piece → Bool
+kinds_lead [] = false
+kinds_lead (piece ∷ pieces) = is_kinds piece && list_any is_pair pieces || kinds_lead pieces
+
 -- `Arg1` and then `Arg2`, without marks
 abbrev pub are_arguments : List RolePair → Bool
 are_arguments (first ∷ second ∷ []) =
     length first.mark == 0 && length second.mark == 0 && bytes_eq first.role (codes "Arg1") && bytes_eq second.role (codes "Arg2")
 are_arguments _ = false
 
--- the fault of an overlap line
+-- the fault of an overlap line: `Arg1`, `Arg2` and the kinds stand in this order
 abbrev pub overlap_fault : File → NamedLine → Option ConfWhat
 overlap_fault file line =
     let pairs = pairs_of line.pieces in
     first_told (
     (list_any names_badly pairs, BadName)
     ∷ (list_any (λ pair. is_none (count_of pair.mark)) pairs, BadCount)
-    ∷ (list_any is_shapeless line.pieces || not (are_arguments pairs) || not (has_kinds (filter_map (keyed_value (codes "OVL-TYPE")) line.pieces)), BadArgument)
-    ∷ (list_any (λ pair. list_any (is_unknown file.macros (names_of (bound_names file))) pair.alternatives) pairs, UnknownTypeNamed)
+    ∷ (list_any is_shapeless line.pieces || not (are_arguments pairs) || not (has_kinds (filter_map (keyed_value (codes "OVL-TYPE")) line.pieces)) || kinds_lead line.pieces, BadArgument)
+    ∷ (list_any (λ pair. list_any (is_unknown file.macros (declared_names file) (names_of (bound_names file))) pair.alternatives) pairs, UnknownTypeNamed)
     ∷ (list_any (λ pair. list_any (is_unheld file.macros false) pair.alternatives) pairs, UnknownMacro)
     ∷ [])
 
@@ -243,13 +263,13 @@ attribute_fault file line =
     let pairs = pairs_of line.pieces in
     let targets = filter (λ pair. not (is_values pair)) pairs in
     let values = filter is_values pairs in
-    let known = names_of (bound_names file ++ of_named file.relations) in
+    let known = declared_names file in
     first_told (
     (is_no_declared line.name || list_any values_badly pairs, BadName)
     ∷ (stood_before line.number line.name (of_named file.attributes) || list_any (λ pair. stands_twice (map word_of pair.alternatives)) values, NameTwice)
     ∷ (list_any (λ pair. is_none (count_of pair.mark)) pairs, BadCount)
     ∷ (list_any is_shapeless line.pieces || not (is_attribute pairs), BadArgument)
-    ∷ (list_any (λ pair. list_any (is_unknown file.macros known) pair.alternatives) targets, UnknownTypeNamed)
+    ∷ (list_any (λ pair. list_any (is_unknown file.macros known known) pair.alternatives) targets, UnknownTypeNamed)
     ∷ (list_any (λ pair. list_any (is_unheld file.macros true) pair.alternatives) targets, UnknownMacro)
     ∷ (are_past 256 line.number (of_named file.attributes) || list_any (λ pair. nat_lt 256 (length pair.alternatives)) values, TooManyTypes)
     ∷ [])
@@ -261,7 +281,7 @@ macro_fault file number name alternatives =
     first_told (
     (is_no_name name || list_any (λ one. is_no_name (word_of one)) alternatives, BadName)
     ∷ (is_some (macro_named earlier name), NameTwice)
-    ∷ (list_any (is_unknown earlier (names_of (bound_names file ++ of_named file.relations))) alternatives, UnknownTypeNamed)
+    ∷ (list_any (is_unknown earlier (declared_names file) (declared_names file)) alternatives, UnknownTypeNamed)
     ∷ (list_any (is_unheld earlier true) alternatives, UnknownMacro)
     ∷ [])
 
@@ -292,7 +312,6 @@ abbrev pub fault_at : File → ℕ → Place → Kind → Option ConfWhat
 fault_at file number place Skipped = None
 fault_at file number place (Header None) = Some UnknownSection
 fault_at file number place (Header (Some section)) = if opened_before file number section then Some SectionTwice else None
-fault_at file number Nowhere (Macro name cs) = None
 fault_at file number place (Macro name cs) = macro_fault file number name (alternatives_of cs)
 fault_at file number Before (Content cs) = Some OutsideSection
 fault_at file number Nowhere (Content cs) = None

@@ -4,7 +4,7 @@ use Rattle.std.specs.Char.{is_whitespace}
 use Rattle.std.specs.Str.{skip_leading_whitespace}
 use Rattle.std.specs.Option.{option_or, option_map_or}
 use Rattle.std.specs.List.{before_first, position_or_len}
-use Rattle.annotation_conf.specs.ConfLines.{Section, Entities, Relations, Events, Attributes, Place, Nowhere, Within, Kind, Macro, Content, Line, file_lines}
+use Rattle.annotation_conf.specs.ConfLines.{Section, Entities, Relations, Events, Attributes, Place, Within, Kind, Macro, Content, Line, file_lines}
 use Rattle.annotation_conf.specs.ConfPairs.{Alternative, Named, Held, Piece, alternatives_of, pieces_of}
 
 -- the same section
@@ -15,11 +15,12 @@ is_section Events Events = true
 is_section Attributes Attributes = true
 is_section _ _ = false
 
--- the line of a type: how many TABs stand before it, whether it begins with a space, whether annotations may have it, its name, and what follows
+-- the line of a type: how many TABs stand before it, whether it begins with a space, whether other white space stands before its name, whether annotations may have it, its name, and what follows
 pub record TypeLine : Type 0 where
   pub number : ℕ
   pub depth : ℕ
   pub spaced : Bool
+  pub gapped : Bool
   pub usable : Bool
   pub name : List ℕ
   pub pieces : List Piece
@@ -45,16 +46,18 @@ pub record MacroLine : Type 0 where
   pub alternatives : List Alternative
   pub holding : Holding
 
--- a type line by its characters: TABs, `!` where annotations may not have the type, a name, and what follows
+-- a type line by its characters: TABs, `!` where annotations may not have the type, a name, and what follows; other white space behind the TABs is passed over
 abbrev pub type_line : ℕ → List ℕ → TypeLine
 type_line number cs =
     let depth = position_or_len (λ c. not (c == 9)) cs in
-    let body = drop depth cs in
+    let indented = drop depth cs in
+    let body = skip_leading_whitespace indented in
     let named = if slice_index body 0 == 33 then drop 1 body else body in
     record {
       number = number;
       depth = depth;
       spaced = slice_index cs 0 == 32;
+      gapped = is_whitespace (slice_index indented 0);
       usable = not (slice_index body 0 == 33);
       name = encode_utf8_all (before_first is_whitespace named);
       pieces = pieces_of (drop (position_or_len is_whitespace named) named);
@@ -115,9 +118,8 @@ abbrev pub all_held : List MacroLine → List Alternative → Holding
 all_held macros [] = none_held
 all_held macros (one ∷ more) = both_held (one_held macros one) (all_held macros more)
 
--- the macro of a line, where it defines one; a line behind one that names no section defines none
+-- the macro of a line, where it defines one, whatever its section
 abbrev pub macro_at : List MacroLine → ℕ → Place → Kind → List MacroLine
-macro_at before number Nowhere kind = []
 macro_at before number place (Macro name cs) =
     let alternatives = alternatives_of cs in
     record { number = number; name = name; alternatives = alternatives; holding = all_held before alternatives } ∷ []

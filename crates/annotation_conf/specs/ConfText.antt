@@ -1,7 +1,7 @@
 -- The canonical text of a configuration.
-use Rattle.std.specs.Prelude.{ℕ, ◌==◌, ◌&&◌, Bool, true, false, List, [], ◌∷◌, ◌++◌, length, nat_lt, if◌then◌else◌, map, filter, decimal, codes, replicate, slice_get}
+use Rattle.std.specs.Prelude.{ℕ, ◌==◌, ◌&&◌, Bool, true, false, not, List, [], ◌∷◌, ◌++◌, length, nat_lt, if◌then◌else◌, map, filter, decimal, codes, replicate, slice_get, bytes_eq}
 use Rattle.std.specs.Option.{option_map_or}
-use Rattle.std.specs.List.{join_with_byte, flat_map, enumerate_from}
+use Rattle.std.specs.List.{list_any, join_with_byte, flat_map, enumerate_from}
 use Rattle.type_hierarchy.specs.declared.type_row.TypeRow.{TypeRow}
 pub use Rattle.type_hierarchy.specs.TypeTrees.{depth_by}
 use Rattle.annotation_conf.specs.Configurations.{Alternatives, Role, Arguments, RelationType, AttributeType, Overlap, Configuration}
@@ -24,11 +24,19 @@ type_name_at conf place = option_map_or (λ row. row.name) (slice_get conf.types
 abbrev pub relation_name_at : Configuration → ℕ → List ℕ
 relation_name_at conf place = option_map_or (λ relation. relation.name) (slice_get conf.relations place) []
 
--- alternatives: the built-in macros, then types, then relation types, joined by `|`
+-- one of some types has a name
+abbrev pub has_type_named : Configuration → List ℕ → List ℕ → Bool
+has_type_named conf places name = list_any (λ place. bytes_eq name (type_name_at conf place)) places
+
+-- the relation types by name, without those whose name a type by name has too: such a name is written once
+abbrev pub named_apart : Configuration → Alternatives → List ℕ
+named_apart conf named = filter (λ place. not (has_type_named conf named.bound (relation_name_at conf place))) named.between
+
+-- alternatives: the built-in macros, then types, then relation types, each name once, joined by `|`
 abbrev pub alternatives_text : Configuration → Alternatives → List ℕ
 alternatives_text conf named =
     join_with_byte 124 (where_so named.entity (codes "<ENTITY>") ++ where_so named.event (codes "<EVENT>") ++ where_so named.any (codes "<ANY>")
-    ++ where_so named.relation (codes "<RELATION>") ++ map (type_name_at conf) named.bound ++ map (relation_name_at conf) named.between)
+    ++ where_so named.relation (codes "<RELATION>") ++ map (type_name_at conf) named.bound ++ map (relation_name_at conf) (named_apart conf named))
 
 -- a count in braces, or two with a hyphen between
 abbrev pub braces_text : ℕ → ℕ → List ℕ

@@ -1,4 +1,4 @@
--- What a count shows.
+-- What a count shows (private calls only).
 use Rattle.std.specs.Prelude.{ℕ, ◌==◌, List, Option, if◌then◌else◌}
 use Rattle.std.specs.List.{list_any, before_first, after_first}
 use Rattle.annotation_conf.specs.declared.count.Count.{Count as CountValue}

@@ -1,4 +1,4 @@
--- The first fault of each list of a file by the values that are kept of it.
+-- The first fault of each list of a file by the values that are kept of it (private calls only).
 use Rattle.std.specs.Prelude.{ℕ, ◌+◌, Bool, true, false, List, [], ◌∷◌, length, Option, Some, None, option_map, if◌then◌else◌}
 use Rattle.std.specs.Option.{option_or}
 use Rattle.std.specs.List.{list_any}

@@ -1,9 +1,11 @@
--- The fault of a line by the values that are kept of it.
+-- The fault of a line by the values that are kept of it (private calls only).
 use Rattle.std.specs.Prelude.{ℕ, ◌+◌, ◌||◌, ◌&&◌, ◌++◌, Bool, true, false, not, List, [], ◌∷◌, length, take, map, filter, nat_lt, Option, Some, None, is_some, is_none, bytes_eq, codes}
 use Rattle.std.specs.Option.{option_map_or}
 use Rattle.std.specs.List.{list_any}
 use Rattle.annotation_conf.specs.declared.conf_fault.ConfWhat.{ConfWhat}
 use Rattle.annotation_conf.specs.declared.conf_fault.ConfWhat.TheVariants.{BadIndent, BadName, NameTwice, BadCount, BadArgument, UnknownTypeNamed, UnknownMacro, TooManyTypes}
+use Rattle.annotation_conf.specs.declared.pieces.Alternative.{Alternative as AlternativeValue}
+use Rattle.annotation_conf.specs.declared.pieces.Alternative.TheVariants.{Named as NamedValue, Held as HeldValue}
 use Rattle.annotation_conf.specs.declared.pieces.RolePair.{RolePair as RolePairValue}
 use Rattle.annotation_conf.specs.declared.pieces.KeyedPair.{KeyedPair as KeyedPairValue}
 use Rattle.annotation_conf.specs.declared.file.TypeLine.{TypeLine as TypeLineValue}
@@ -11,7 +13,7 @@ use Rattle.annotation_conf.specs.declared.file.NamedLine.{NamedLine as NamedLine
 use Rattle.annotation_conf.specs.declared.file.MacroLine.{MacroLine as MacroLineValue}
 use Rattle.annotation_conf.specs.ConfPairs.{count_of}
 use Rattle.annotation_conf.specs.ConfNames.{File, macro_named}
-use Rattle.annotation_conf.specs.ConfFaults.{first_told, names_badly, values_badly, is_values, stands_twice, is_no_name, is_no_declared, word_of, is_unknown, is_unheld, names_of, bound_names, of_types, of_named, firsts, stood_before, are_past, is_binary, are_arguments, is_attribute, has_kinds, same_words, same_truth, first_line}
+use Rattle.annotation_conf.specs.ConfFaults.{first_told, names_badly, values_badly, is_values, stands_twice, is_no_name, is_no_declared, word_of, is_unknown, is_unheld, names_of, bound_names, of_types, of_named, firsts, stood_before, declared_names, is_among, are_past, is_binary, are_arguments, is_attribute, has_kinds, same_words, same_truth, first_line}
 use Rattle.annotation_conf.specs.FileKept.{KeyedPair, KeptNamed, kept_named}
 use Rattle.annotation_conf.specs.FileShows.{seen_alternative, seen_pair, seen_named}
 
@@ -31,7 +33,7 @@ marked_badly pairs = list_any (λ pair. is_none (count_of (seen_pair pair).mark)
 -- some alternative holds a name of no type
 abbrev pub names_no_type : File → List RolePairValue → Bool
 names_no_type file pairs =
-    list_any (λ pair. list_any (λ one. is_unknown file.macros (names_of (bound_names file)) (seen_alternative one)) pair.alternatives.items) pairs
+    list_any (λ pair. list_any (λ one. is_unknown file.macros (declared_names file) (names_of (bound_names file)) (seen_alternative one)) pair.alternatives.items) pairs
 
 -- some alternative is a macro that is not defined, or holds relation types
 abbrev pub unheld_in : File → List RolePairValue → Bool
@@ -42,7 +44,7 @@ unfoldable pub type_told : File → Option ℕ → List RolePairValue → Bool �
 type_told file before pairs shapeless line =
     first_told (
     (line.spaced || too_deep line.depth before, BadIndent)
-    ∷ (is_no_declared line.name || named_badly pairs, BadName)
+    ∷ (line.gapped || is_no_declared line.name || named_badly pairs, BadName)
     ∷ (stood_before line.number line.name (bound_names file) || stands_twice (map (λ pair. (seen_pair pair).role) pairs), NameTwice)
     ∷ (marked_badly pairs, BadCount)
     ∷ (shapeless, BadArgument)
@@ -94,7 +96,7 @@ overlap_told file line =
     first_told (
     (named_badly pairs, BadName)
     ∷ (marked_badly pairs, BadCount)
-    ∷ (line.pieces.shapeless || not (are_arguments (map seen_pair pairs)) || not (has_kinds (kinds_in line.pieces.keyed.items)), BadArgument)
+    ∷ (line.pieces.shapeless || not (are_arguments (map seen_pair pairs)) || not (has_kinds (kinds_in line.pieces.keyed.items)) || line.pieces.late, BadArgument)
     ∷ (names_no_type file pairs, UnknownTypeNamed)
     ∷ (unheld_in file pairs, UnknownMacro)
     ∷ [])
@@ -103,10 +105,15 @@ overlap_told file line =
 abbrev pub values_twice : RolePairValue → Bool
 values_twice pair = is_values (seen_pair pair) && stands_twice (map (λ one. word_of (seen_alternative one)) pair.alternatives.items)
 
--- a pair of targets that holds a name of no type and no relation type
+-- an alternative names no type and no relation type; a macro that holds such a name has its fault on its own line
+abbrev pub is_undeclared : File → AlternativeValue → Bool
+is_undeclared file (NamedValue name) = not (is_among (declared_names file) name)
+is_undeclared file (HeldValue name) = false
+
+-- a pair of targets that names no type and no relation type
 abbrev pub target_names_nothing : File → RolePairValue → Bool
 target_names_nothing file pair =
-    not (is_values (seen_pair pair)) && list_any (λ one. is_unknown file.macros (names_of (bound_names file ++ of_named file.relations)) (seen_alternative one)) pair.alternatives.items
+    not (is_values (seen_pair pair)) && list_any (is_undeclared file) pair.alternatives.items
 
 -- a pair of targets with a macro that is not defined
 abbrev pub target_unheld : File → RolePairValue → Bool
@@ -116,7 +123,7 @@ target_unheld file pair = not (is_values (seen_pair pair)) && list_any (λ one. 
 abbrev pub has_many_values : RolePairValue → Bool
 has_many_values pair = is_values (seen_pair pair) && nat_lt 256 (length pair.alternatives.items)
 
--- some target holds a name of no type and no relation type
+-- some target is a name of no type and no relation type
 unfoldable pub targets_name_nothing : File → List RolePairValue → Bool
 targets_name_nothing file pairs = list_any (λ pair. target_names_nothing file pair) pairs
 
@@ -143,14 +150,11 @@ attribute_told file line =
     ∷ [])
 
 -- the fault of the line of a macro behind so many others
-abbrev pub macro_told : File → ℕ → MacroLineValue → Option ConfWhat
+unfoldable pub macro_told : File → ℕ → MacroLineValue → Option ConfWhat
 macro_told file count line =
     first_told (
     (is_no_name line.name || list_any (λ one. is_no_name (word_of (seen_alternative one))) line.alternatives.items, BadName)
     ∷ (is_some (macro_named (take count file.macros) line.name), NameTwice)
-    ∷ (
-      list_any (λ one. is_unknown (take count file.macros) (names_of (bound_names file ++ of_named file.relations)) (seen_alternative one)) line.alternatives.items,
-      UnknownTypeNamed,
-    )
+    ∷ (list_any (is_undeclared file) line.alternatives.items, UnknownTypeNamed)
     ∷ (list_any (λ one. is_unheld (take count file.macros) true (seen_alternative one)) line.alternatives.items, UnknownMacro)
     ∷ [])

@@ -1,5 +1,5 @@
--- How what is kept of a file grows, piece by piece and line by line.
-use Rattle.std.specs.Prelude.{ℕ, ◌||◌, Bool, false, bytes_eq, codes, if◌then◌else◌, List, [], ◌∷◌, ◌++◌, drop, encode_utf8_all, map}
+-- How what is kept of a file grows, piece by piece and line by line (private calls only).
+use Rattle.std.specs.Prelude.{ℕ, ◌||◌, ◌&&◌, Bool, false, bytes_eq, codes, if◌then◌else◌, List, [], ◌∷◌, ◌++◌, drop, encode_utf8_all, map}
 use Rattle.std.specs.Str.{skip_leading_whitespace}
 use Rattle.std.specs.List.{list_any, before_first, position_or_len}
 use Rattle.annotation_conf.specs.declared.pieces.Piece.{Piece as PieceValue}
@@ -9,7 +9,7 @@ use Rattle.annotation_conf.specs.declared.line.Place.TheVariants.{Before as Befo
 use Rattle.annotation_conf.specs.ConfLines.{Section, Entities, Relations, Events, Attributes, Place, Before, Nowhere, Within, Kind, Skipped, Header, Macro, Content, Line, kind_of, place_after}
 use Rattle.annotation_conf.specs.ConfPairs.{Piece, Shapeless, Keyed, Pair, begins_mark, alternatives_of}
 use Rattle.annotation_conf.specs.ConfNames.{type_line, named_line}
-use Rattle.annotation_conf.specs.ConfFaults.{RolePair, pairs_of, is_shapeless}
+use Rattle.annotation_conf.specs.ConfFaults.{RolePair, pairs_of, is_shapeless, is_kinds, is_pair, kinds_lead}
 use Rattle.annotation_conf.specs.FileKept.{Behind, KeptNamed, KeptMacro, KeptFile, Said, keyed_of, kept_type, kept_named, said_of}
 use Rattle.annotation_conf.specs.FileShows.{seen_section, seen_alternative}
 
@@ -29,12 +29,18 @@ seen_piece (PairValue pair) = Pair pair.role pair.mark.items (map seen_alternati
 
 -- no pieces
 abbrev pub nothing_behind : Behind
-nothing_behind = record { shapeless = false; keyed = []; pairs = [] }
+nothing_behind = record { shapeless = false; kinds = false; late = false; keyed = []; pairs = [] }
 
 -- more pieces behind others
 abbrev pub with_pieces : Behind → List Piece → Behind
 with_pieces behind pieces =
-    record { shapeless = behind.shapeless || list_any is_shapeless pieces; keyed = behind.keyed ++ keyed_of pieces; pairs = behind.pairs ++ pairs_of pieces }
+    record {
+      shapeless = behind.shapeless || list_any is_shapeless pieces;
+      kinds = behind.kinds || list_any is_kinds pieces;
+      late = behind.late || behind.kinds && list_any is_pair pieces || kinds_lead pieces;
+      keyed = behind.keyed ++ keyed_of pieces;
+      pairs = behind.pairs ++ pairs_of pieces;
+    }
 
 -- one more
 abbrev pub with_piece : Behind → Piece → Behind
@@ -125,9 +131,7 @@ with_macro file macro = record {
 abbrev pub with_kind : KeptFile → ℕ → Place → Kind → KeptFile
 with_kind file number place Skipped = file
 with_kind file number place (Header _) = file
-with_kind file number Nowhere (Macro name cs) = file
-with_kind file number Before (Macro name cs) = with_macro file (record { number = number; name = name; alternatives = alternatives_of cs })
-with_kind file number (Within _) (Macro name cs) = with_macro file (record { number = number; name = name; alternatives = alternatives_of cs })
+with_kind file number place (Macro name cs) = with_macro file (record { number = number; name = name; alternatives = alternatives_of cs })
 with_kind file number Before (Content cs) = file
 with_kind file number Nowhere (Content cs) = file
 with_kind file number (Within section) (Content cs) = with_declared file number section cs

@@ -1,4 +1,4 @@
--- The macros of a file from what is kept of them: each holds what its alternatives hold by the macros before it.
+-- The macros of a file from what is kept of them: each holds what its alternatives hold by the macros before it (private calls only).
 use Rattle.std.specs.Prelude.{List, [], ◌∷◌, ◌++◌}
 use Rattle.annotation_conf.specs.ConfNames.{MacroLine, all_held}
 use Rattle.annotation_conf.specs.FileKept.{KeptMacro}

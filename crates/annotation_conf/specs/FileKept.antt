@@ -1,10 +1,10 @@
--- What the reader of annotation.conf keeps of a file: each line by what it says, and what is declared by sorts.
+-- What the reader of annotation.conf keeps of a file: each line by what it says, and what is declared by sorts (private calls only).
 use Rattle.std.specs.Prelude.{ℕ, Bool, List, Option, Some, None, filter_map, map}
 use Rattle.std.specs.List.{list_any}
 use Rattle.annotation_conf.specs.ConfLines.{Section, Place, Before, Nowhere, Within, Kind, Skipped, Header, Macro, Content, Line}
 use Rattle.annotation_conf.specs.ConfPairs.{Alternative, Piece, Shapeless, Keyed, Pair}
 use Rattle.annotation_conf.specs.ConfNames.{TypeLine, NamedLine, MacroLine, File}
-use Rattle.annotation_conf.specs.ConfFaults.{RolePair, pairs_of, is_shapeless}
+use Rattle.annotation_conf.specs.ConfFaults.{RolePair, pairs_of, is_shapeless, is_kinds, kinds_lead}
 
 -- a pair with a bracketed key
 pub record KeyedPair : Type 0 where
@@ -21,21 +21,24 @@ keyed_pair (Pair _ _ _) = None
 abbrev pub keyed_of : List Piece → List KeyedPair
 keyed_of pieces = filter_map keyed_pair pieces
 
--- what stands behind a name, by sorts
+-- what stands behind a name, by sorts; whether a pair of kinds stands there, and a role pair behind one
 pub record Behind : Type 0 where
   pub shapeless : Bool
+  pub kinds : Bool
+  pub late : Bool
   pub keyed : List KeyedPair
   pub pairs : List RolePair
 
 -- the sorts of pieces
 abbrev pub behind_of : List Piece → Behind
-behind_of pieces = record { shapeless = list_any is_shapeless pieces; keyed = keyed_of pieces; pairs = pairs_of pieces }
+behind_of pieces = record { shapeless = list_any is_shapeless pieces; kinds = list_any is_kinds pieces; late = kinds_lead pieces; keyed = keyed_of pieces; pairs = pairs_of pieces }
 
 -- what is kept of a type line
 pub record KeptType : Type 0 where
   pub number : ℕ
   pub depth : ℕ
   pub spaced : Bool
+  pub gapped : Bool
   pub usable : Bool
   pub name : List ℕ
   pub behind : Behind
@@ -54,7 +57,7 @@ pub record KeptMacro : Type 0 where
 
 -- a type line as it is kept
 abbrev pub kept_type : TypeLine → KeptType
-kept_type line = record { number = line.number; depth = line.depth; spaced = line.spaced; usable = line.usable; name = line.name; behind = behind_of line.pieces }
+kept_type line = record { number = line.number; depth = line.depth; spaced = line.spaced; gapped = line.gapped; usable = line.usable; name = line.name; behind = behind_of line.pieces }
 
 -- any other line as it is kept
 abbrev pub kept_named : NamedLine → KeptNamed

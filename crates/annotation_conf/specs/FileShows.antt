@@ -1,4 +1,4 @@
--- What the values of a read file show of the file that the definition speaks of.
+-- What the values of a read file show of the file that the definition speaks of (private calls only).
 use Rattle.std.specs.Prelude.{◌≡◌, map}
 use Rattle.annotation_conf.specs.declared.line.Section.{Section as SectionValue}
 use Rattle.annotation_conf.specs.declared.line.Section.TheVariants.{Entities as EntitiesValue, Relations as RelationsValue, Events as EventsValue, Attributes as AttributesValue}
@@ -42,11 +42,11 @@ seen_keyed pair = record { key = pair.key; value = pair.value.items }
 
 -- what stands behind a name
 abbrev pub seen_pieces : PiecesValue → Behind
-seen_pieces pieces = record { shapeless = pieces.shapeless; keyed = map seen_keyed pieces.keyed.items; pairs = map seen_pair pieces.pairs.items }
+seen_pieces pieces = record { shapeless = pieces.shapeless; kinds = pieces.kinds; late = pieces.late; keyed = map seen_keyed pieces.keyed.items; pairs = map seen_pair pieces.pairs.items }
 
 -- a type line
 abbrev pub seen_type : TypeLineValue → KeptType
-seen_type line = record { number = line.number; depth = line.depth; spaced = line.spaced; usable = line.usable; name = line.name; behind = seen_pieces line.pieces }
+seen_type line = record { number = line.number; depth = line.depth; spaced = line.spaced; gapped = line.gapped; usable = line.usable; name = line.name; behind = seen_pieces line.pieces }
 
 -- any other line that declares something
 abbrev pub seen_named : NamedLineValue → KeptNamed

@@ -1,4 +1,4 @@
--- The first fault of a file by its lists: the soonest of the first faults among its section lines, its macros and the lines of each section.
+-- The first fault of a file by its lists: the soonest of the first faults among its section lines, its macros and the lines of each section (private calls only).
 use Rattle.std.specs.Prelude.{ℕ, ◌+◌, ◌≤◌, false, List, [], ◌∷◌, nat_lt, Option, Some, None, option_map, if◌then◌else◌, ⊤}
 use Rattle.std.specs.Option.{option_or}
 use Rattle.std.specs.List.{list_any}

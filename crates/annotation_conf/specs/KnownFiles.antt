@@ -1,4 +1,4 @@
--- What is known of a read file before its faults are looked for: the names that its lines declare, in the order of the lines.
+-- What is known of a read file before its faults are looked for: the names that its lines declare, in the order of the lines (private calls only).
 use Rattle.std.specs.Prelude.{◌≡◌, ℕ, ◌<◌, List, Option, Some, length, take, map, filter, slice_index_or}
 use Rattle.annotation_conf.specs.declared.file.File.{File as FileValue}
 use Rattle.annotation_conf.specs.declared.file.TypeLine.{TypeLine as TypeLineValue}

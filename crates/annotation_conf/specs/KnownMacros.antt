@@ -1,21 +1,20 @@
--- What is asked of what alternatives hold, without the names themselves.
-use Rattle.std.specs.Prelude.{◌≡◌, ℕ, ◌++◌, ◌||◌, not, false, List, Option, option_map, take, length, map}
+-- What is asked of what alternatives hold, without the names themselves (private calls only).
+use Rattle.std.specs.Prelude.{◌≡◌, ℕ, ◌||◌, ◌&&◌, not, false, List, Option, option_map, take, length, map}
 use Rattle.std.specs.List.{list_any}
 use Rattle.annotation_conf.specs.declared.faults_macros.Kinds.{Kinds}
 use Rattle.annotation_conf.specs.ConfPairs.{Alternative}
 use Rattle.annotation_conf.specs.ConfNames.{File, MacroLine, Holding, built_in}
-use Rattle.annotation_conf.specs.ConfFaults.{is_among, names_of, bound_names, of_named}
+use Rattle.annotation_conf.specs.ConfFaults.{is_among, names_of, bound_names, declared_names}
 use Rattle.annotation_conf.specs.KnownFiles.{held_by}
 
--- the sorts that alternatives hold, and whether some name is that of no type, or of no type and no relation type
+-- the sorts that alternatives hold, and whether some name is declared, and that of no entity or event type
 abbrev pub kinds_of : File → Holding → Kinds
 kinds_of file holding = record {
   entity = holding.entity;
   event = holding.event;
   any = holding.any;
   relation = holding.relation;
-  no_type = list_any (λ name. not (is_among (names_of (bound_names file)) name)) holding.names;
-  nothing = list_any (λ name. not (is_among (names_of (bound_names file ++ of_named file.relations)) name)) holding.names;
+  no_type = list_any (λ name. is_among (declared_names file) name && not (is_among (names_of (bound_names file)) name)) holding.names;
 }
 
 -- the sorts of some macros
@@ -38,12 +37,11 @@ either_kinds a b = record {
   any = a.any || b.any;
   relation = a.relation || b.relation;
   no_type = a.no_type || b.no_type;
-  nothing = a.nothing || b.nothing;
 }
 
 -- nothing is held
 abbrev pub no_kinds : Kinds
-no_kinds = record { entity = false; event = false; any = false; relation = false; no_type = false; nothing = false }
+no_kinds = record { entity = false; event = false; any = false; relation = false; no_type = false }
 
 -- what a built-in macro holds
 abbrev pub AreBuiltIn : List ℕ → Option Kinds → Type 0

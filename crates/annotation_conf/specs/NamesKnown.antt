@@ -1,4 +1,4 @@
--- Declared names with a map that finds their places.
+-- Declared names with a map that finds their places (private calls only).
 use Rattle.std.specs.Prelude.{◌≡◌, ℕ, Bool, not, List, Option, bytes_eq, filter}
 use Rattle.std.specs.List.{position_from}
 use Rattle.std.specs.BTreeMap.{BTreeMap, get_by}

@@ -25,6 +25,7 @@ bare_line rows placed = record {
   number = 0;
   depth = depth_by (length rows) rows placed.0;
   spaced = false;
+  gapped = false;
   usable = placed.1.usable;
   name = placed.1.name;
   pieces = [];

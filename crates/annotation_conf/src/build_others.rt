@@ -8,11 +8,11 @@ ghost use Rattle.annotation_conf.specs.BuildTold.{has_kind_told, overlap_kept, f
 
 use crate::build_resolver::Resolver;
 use crate::build_roles::{arguments, name_of};
-use crate::faults_lines::{has_kinds_key, is_equivalence};
+use crate::faults_lines::is_equivalence;
 use crate::faults_pairs::{is_values, word};
 use crate::file::NamedLine;
 use crate::line_parts::{spells, split_at};
-use crate::pieces::{Alternative, KeyedPair, RolePair};
+use crate::pieces::{Alternative, KeyedPair, RolePair, has_kinds_key};
 use crate::{ArgumentLines, AttributeType, Overlap, RelationType, Values};
 use mark_base::{Memory, Name};
 use std::alloc::Global;
@@ -99,32 +99,24 @@ pub fn overlaps(
 fn targets_of(pairs: &[RolePair]) -> &[Alternative]
     ensures { result.now ≡ first_targets pairs.now }
 {
-    match pairs {
-        [] => &[],
-        [pair, pairs @ ..] => {
-            if is_values(pair) {
-                targets_of(pairs)
-            } else {
-                pair.alternatives.as_slice()
-            }
+    for pair in pairs {
+        if !is_values(pair) {
+            return pair.alternatives.as_slice();
         }
     }
+    &[]
 }
 
 /// The alternatives of the pair of values.
 fn values_of(pairs: &[RolePair]) -> &[Alternative]
     ensures { result.now ≡ first_values pairs.now }
 {
-    match pairs {
-        [] => &[],
-        [pair, pairs @ ..] => {
-            if is_values(pair) {
-                pair.alternatives.as_slice()
-            } else {
-                values_of(pairs)
-            }
+    for pair in pairs {
+        if is_values(pair) {
+            return pair.alternatives.as_slice();
         }
     }
+    &[]
 }
 
 /// The names of alternatives.

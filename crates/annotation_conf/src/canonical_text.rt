@@ -45,24 +45,20 @@ fn push_roles(
 ) -> Result<(), Memory>
     ensures { OnOk result (pairs.new.items ≡ pairs.old.items ++ map (role_text conf.now) roles.now) }
 {
-    match roles {
-        [] => Ok(()),
-        [role, rest @ ..] => {
-            pairs.push(role_text(alloc, conf, role)?)?;
-            push_roles(alloc, pairs, conf, rest)
-        }
+    for role in roles {
+        pairs.push(role_text(alloc, conf, role)?)?;
     }
+    Ok(())
 }
 
 /// Appends TABs.
 fn push_tabs(out: &mut String, depth: u8) -> Result<(), Memory>
     ensures { OnOk result (string_bytes out.new ≡ string_bytes out.old ++ replicate depth 9) }
 {
-    if depth == 0 {
-        return Ok(());
+    for _ in 0..depth {
+        out.push_str("\t")?;
     }
-    out.push_str("\t")?;
-    push_tabs(out, depth - 1)
+    Ok(())
 }
 
 /// How many ancestors a type has.
@@ -232,13 +228,10 @@ fn values_text(alloc: Global, values: &[Name]) -> Result<Text, Memory>
 fn push_names(alloc: Global, words: &mut Vec<Text>, names: &[Name]) -> Result<(), Memory>
     ensures { OnOk result (words.new.items ≡ words.old.items ++ names.now) }
 {
-    match names {
-        [] => Ok(()),
-        [name, rest @ ..] => {
-            words.push(text_of(alloc, name.text())?)?;
-            push_names(alloc, words, rest)
-        }
+    for name in names {
+        words.push(text_of(alloc, name.text())?)?;
     }
+    Ok(())
 }
 
 /// Appends the line of an attribute.

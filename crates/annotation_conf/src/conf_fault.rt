@@ -16,8 +16,9 @@ pub enum ConfWhat {
     OutsideSection,
     /// A type stands deeper than one below the type line before it, or begins with a space.
     BadIndent,
-    /// A type, role, value or macro name is no name, or the name of a type or an attribute begins with
-    /// `[` or is of hyphens only.
+    /// A type, role, value or macro name is no name, or the name of a type, relation type or attribute
+    /// begins with `[` or is of hyphens only; or other white space stands between the TABs and the name of
+    /// an entity or event type.
     BadName,
     /// A type, attribute or macro, a role of one event type or a value of one attribute stood before.
     NameTwice,
@@ -25,9 +26,12 @@ pub enum ConfWhat {
     BadCount,
     /// A pair or a list of pairs is not of the form that its section asks.
     BadArgument,
-    /// A named type is declared nowhere, or is not of a sort that may stand there.
+    /// A named type is declared nowhere, or is not of a sort that may stand there. A macro that names what
+    /// is declared nowhere is at fault on its own line alone.
     UnknownTypeNamed,
-    /// A macro is defined nowhere, or in a macro not earlier, or holds relation types where none may stand.
+    /// A macro is defined nowhere, or, in a macro, on no earlier line; or `<RELATION>`, or a macro that holds
+    /// it, stands where no relation type may. A macro that holds one relation type by its name is
+    /// `UnknownTypeNamed` there.
     UnknownMacro,
     /// The line brings the 257th type, relation type, attribute, role or value, or the 64th usable type.
     TooManyTypes,

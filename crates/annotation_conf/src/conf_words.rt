@@ -1,7 +1,7 @@
 //! The words of a configuration's canonical text: alternatives, marks and pairs.
-ghost use Rattle.std.specs.Prelude.{◌≡◌, ◌++◌, ◌∷◌, List, string_bytes, decimal, map, IfOk, OnOk, codes};
+ghost use Rattle.std.specs.Prelude.{◌≡◌, ◌++◌, ◌∷◌, List, string_bytes, decimal, map, filter, not, IfOk, OnOk, codes};
 ghost use Rattle.std.specs.List.{join_with_byte};
-ghost use Rattle.annotation_conf.specs.ConfText.{where_so, type_name_at, relation_name_at, alternatives_text, braces_text, mark_text, pair_text, role_text, with_commas};
+ghost use Rattle.annotation_conf.specs.ConfText.{where_so, type_name_at, relation_name_at, has_type_named, alternatives_text, braces_text, mark_text, pair_text, role_text, with_commas};
 
 use crate::{Alternatives, Conf, Role};
 use mark_base::{Memory, RelId, Text, TypeId};
@@ -58,31 +58,43 @@ fn push_type_names(
 ) -> Result<(), Memory>
     ensures { OnOk result (words.new.items ≡ words.old.items ++ map (type_name_at conf.now) places.now) }
 {
-    match places {
-        [] => Ok(()),
-        [place, rest @ ..] => {
-            words.push(text_of(alloc, type_name(conf, *place))?)?;
-            push_type_names(alloc, words, conf, rest)
-        }
+    for place in places {
+        words.push(text_of(alloc, type_name(conf, *place))?)?;
     }
+    Ok(())
 }
 
-/// Adds the names of relation types.
+/// Whether one of some types has a name.
+fn has_type_named(conf: &Conf, places: &[u16], name: &str) -> bool
+    ensures { result ≡ has_type_named conf.now places.now name.now }
+{
+    places.iter().any(|place| name == type_name(conf, *place))
+}
+
+/// Whether a relation type has the name of one of some types.
+fn is_named_as_type(conf: &Conf, types: &[u16], place: u16) -> bool
+    ensures { result ≡ has_type_named conf.now types.now (relation_name_at conf.now place) }
+{
+    has_type_named(conf, types, relation_name(conf, place))
+}
+
+/// Adds the names of relation types that none of some types has. Cost: the number of the ones times that
+/// of the others.
 fn push_relation_names(
     alloc: Global,
     words: &mut Vec<Text>,
     conf: &Conf,
+    types: &[u16],
     places: &[u16],
 ) -> Result<(), Memory>
-    ensures { OnOk result (words.new.items ≡ words.old.items ++ map (relation_name_at conf.now) places.now) }
+    ensures { OnOk result (words.new.items ≡ words.old.items ++ map (relation_name_at conf.now) (filter (λ place. not (has_type_named conf.now types.now (relation_name_at conf.now place))) places.now)) }
 {
-    match places {
-        [] => Ok(()),
-        [place, rest @ ..] => {
+    for place in places {
+        if !is_named_as_type(conf, types, *place) {
             words.push(text_of(alloc, relation_name(conf, *place))?)?;
-            push_relation_names(alloc, words, conf, rest)
         }
     }
+    Ok(())
 }
 
 /// Appends words with a bar between each two.
@@ -153,7 +165,13 @@ pub(crate) fn alternatives_text(
     push_where(alloc, &mut words, named.any, "<ANY>")?;
     push_where(alloc, &mut words, named.relation, "<RELATION>")?;
     push_type_names(alloc, &mut words, conf, named.bound.items())?;
-    push_relation_names(alloc, &mut words, conf, named.between.items())?;
+    push_relation_names(
+        alloc,
+        &mut words,
+        conf,
+        named.bound.items(),
+        named.between.items(),
+    )?;
     joined(alloc, words.as_slice())
 }
 

@@ -1,16 +1,16 @@
 //! The fault of a line.
 ghost use Rattle.std.specs.Prelude.{◌≡◌, ◌≤◌, ◌||◌, ◌&&◌, ◌++◌, nat_lt, false, is_some, not, map, filter, take, length, codes, bytes_eq, IfOk, option_map};
 ghost use Rattle.std.specs.List.{list_any, list_all};
-ghost use Rattle.annotation_conf.specs.ConfFaults.{is_unknown, is_unheld, names_of, bound_names, of_types, of_named, are_past, is_kind, are_kinds, has_kinds, is_values, same_words, same_truth};
+ghost use Rattle.annotation_conf.specs.ConfFaults.{is_unknown, is_unheld, names_of, bound_names, declared_names, of_types, of_named, are_past, is_kind, are_kinds, has_kinds, is_values, same_words, same_truth};
 ghost use Rattle.annotation_conf.specs.ConfNames.{macro_named};
 ghost use Rattle.annotation_conf.specs.FileShows.{seen_alternative, seen_pair, seen_named, seen_keyed};
 ghost use Rattle.annotation_conf.specs.KnownMacros.{AreFirstKinds, kinds_of_macros};
-ghost use Rattle.annotation_conf.specs.FaultsTold.{too_deep, names_no_type, unheld_in, type_told, mark_equivalence, agree_kept, agrees_with_first, relation_told, kinds_in, overlap_told, values_twice, target_names_nothing, target_unheld, targets_name_nothing, targets_unheld, has_many_values, many_values_in, attribute_told, macro_told};
+ghost use Rattle.annotation_conf.specs.FaultsTold.{too_deep, is_undeclared, names_no_type, unheld_in, type_told, mark_equivalence, agree_kept, agrees_with_first, relation_told, kinds_in, overlap_told, values_twice, target_names_nothing, target_unheld, targets_name_nothing, targets_unheld, has_many_values, many_values_in, attribute_told, macro_told};
 
 use crate::ConfWhat;
 use crate::faults_known::KnownNames;
 use crate::faults_macros::{
-    Kinds, KnownMacros, held_macro, is_unheld, names_no_type, names_nothing,
+    Kinds, KnownMacros, held_macro, is_undeclared, is_unheld, names_no_type,
 };
 use crate::faults_pairs::{
     are_arguments, are_badly_marked, are_badly_named, are_badly_valued, is_attribute, is_binary,
@@ -19,24 +19,23 @@ use crate::faults_pairs::{
 use crate::faults_twice::{roles_stand_twice, words_stand_twice};
 use crate::file::{MacroLine, NamedLine, TypeLine};
 use crate::line_parts::{spells, split_at};
-use crate::pieces::{Alternative, KeyedPair, RolePair};
+use crate::pieces::{Alternative, KeyedPair, RolePair, has_kinds_key};
 use mark_base::Memory;
 use std::alloc::Global;
 
-/// Whether some alternative holds a name of no type.
+/// Whether some alternative names no type, or holds a relation type by its name.
 fn some_names_no_type(known: &KnownNames, kinds: &[Kinds], all: &[Alternative]) -> bool
     requires { AreFirstKinds known.now kinds.now }
-    ensures { result ≡ list_any (λ one. is_unknown (take (length kinds.now) known.now.macros) (names_of (bound_names known.now)) (seen_alternative one)) all.now }
+    ensures { result ≡ list_any (λ one. is_unknown (take (length kinds.now) known.now.macros) (declared_names known.now) (names_of (bound_names known.now)) (seen_alternative one)) all.now }
 {
     all.iter().any(|one| names_no_type(known, kinds, one))
 }
 
-/// Whether some alternative holds a name of no type and no relation type.
-fn some_names_nothing(known: &KnownNames, kinds: &[Kinds], all: &[Alternative]) -> bool
-    requires { AreFirstKinds known.now kinds.now }
-    ensures { result ≡ list_any (λ one. is_unknown (take (length kinds.now) known.now.macros) (names_of (bound_names known.now ++ of_named known.now.relations)) (seen_alternative one)) all.now }
+/// Whether some alternative names no type and no relation type.
+fn some_is_undeclared(known: &KnownNames, all: &[Alternative]) -> bool
+    ensures { result ≡ list_any (is_undeclared known.now) all.now }
 {
-    all.iter().any(|one| names_nothing(known, kinds, one))
+    all.iter().any(|one| is_undeclared(known, one))
 }
 
 /// Whether some alternative is a macro that is not defined, or holds relation types where they may not
@@ -49,14 +48,14 @@ fn some_is_unheld(known: &KnownNames, kinds: &[Kinds], relations: bool, all: &[A
         .any(|one| is_unheld(known, kinds, relations, one))
 }
 
-/// Whether some alternative of a pair holds a name of no type.
+/// Whether some alternative of a pair names no type, or holds a relation type by its name.
 fn pair_names_no_type(known: &KnownMacros, pair: &RolePair) -> bool
-    ensures { result ≡ list_any (λ one. is_unknown known.now.macros (names_of (bound_names known.now)) (seen_alternative one)) pair.now.alternatives.items }
+    ensures { result ≡ list_any (λ one. is_unknown known.now.macros (declared_names known.now) (names_of (bound_names known.now)) (seen_alternative one)) pair.now.alternatives.items }
 {
     some_names_no_type(known.names(), known.kinds(), &pair.alternatives)
 }
 
-/// Whether some alternative of some pair holds a name of no type.
+/// Whether some alternative of some pair names no type, or holds a relation type by its name.
 fn pairs_name_no_type(known: &KnownMacros, pairs: &[RolePair]) -> bool
     ensures { result ≡ names_no_type known.now pairs.now }
 {
@@ -112,7 +111,7 @@ pub fn type_fault(
     if line.spaced || is_too_deep(line.depth, before) {
         return Ok(Some(ConfWhat::BadIndent));
     }
-    if is_no_declared(name) || are_badly_named(pairs) {
+    if line.gapped || is_no_declared(name) || are_badly_named(pairs) {
         return Ok(Some(ConfWhat::BadName));
     }
     if known.names().type_stood(line.number, name) || roles_stand_twice(alloc, pairs)? {
@@ -152,7 +151,11 @@ pub fn overlap_fault(
     if are_badly_marked(pairs) {
         return Ok(Some(ConfWhat::BadCount));
     }
-    if line.pieces.shapeless || !are_arguments(pairs) || !has_kinds(alloc, &line.pieces.keyed)? {
+    if line.pieces.shapeless
+        || !are_arguments(pairs)
+        || !has_kinds(alloc, &line.pieces.keyed)?
+        || line.pieces.late
+    {
         return Ok(Some(ConfWhat::BadArgument));
     }
     if pairs_name_no_type(known, pairs) {
@@ -188,13 +191,6 @@ fn are_kinds(alloc: Global, value: &[char]) -> Result<bool, Memory>
 {
     let words = split_at(alloc, value, '|')?;
     Ok(all_are_kinds(&words))
-}
-
-/// Whether the key of a pair is that of kinds.
-pub fn has_kinds_key(pair: &KeyedPair) -> bool
-    ensures { result ≡ bytes_eq pair.now.key (codes "OVL-TYPE") }
-{
-    pair.key.text() == "OVL-TYPE"
 }
 
 /// The pairs of kinds.
@@ -288,11 +284,11 @@ fn have_values_twice(alloc: Global, pairs: &[RolePair]) -> Result<bool, Memory>
     Ok(false)
 }
 
-/// Whether a pair of targets holds a name of no type and no relation type.
+/// Whether a pair of targets names no type and no relation type.
 fn target_names_nothing(known: &KnownMacros, pair: &RolePair) -> bool
     ensures { result ≡ target_names_nothing known.now pair.now }
 {
-    !is_values(pair) && some_names_nothing(known.names(), known.kinds(), &pair.alternatives)
+    !is_values(pair) && some_is_undeclared(known.names(), &pair.alternatives)
 }
 
 /// Whether a pair of targets holds a macro that is not defined.
@@ -433,6 +429,7 @@ fn is_macro(known: &KnownNames, kinds: &[Kinds], name: &str) -> bool
 }
 
 /// The fault of the line of a macro behind the macros of these sorts.
+#[tactic(auto, unfolding(crate::specs::FaultsTold::macro_told))]
 pub fn macro_fault(known: &KnownNames, kinds: &[Kinds], line: &MacroLine) -> Option<ConfWhat>
     requires { AreFirstKinds known.now kinds.now }
     ensures { result ≡ macro_told known.now (length kinds.now) line.now }
@@ -445,7 +442,7 @@ pub fn macro_fault(known: &KnownNames, kinds: &[Kinds], line: &MacroLine) -> Opt
     if is_macro(known, kinds, name) {
         return Some(ConfWhat::NameTwice);
     }
-    if some_names_nothing(known, kinds, alternatives) {
+    if some_is_undeclared(known, alternatives) {
         return Some(ConfWhat::UnknownTypeNamed);
     }
     if some_is_unheld(known, kinds, true, alternatives) {

@@ -1,8 +1,9 @@
 //! What the alternatives of a file hold, as far as its faults ask.
-ghost use Rattle.std.specs.Prelude.{◌≡◌, ℕ, ◌++◌, ◌≤◌, length, map, take, option_map, IfOk};
+ghost use Rattle.std.specs.Prelude.{◌≡◌, ℕ, ◌≤◌, length, map, take, option_map, IfOk};
 ghost use Rattle.annotation_conf.specs.ConfNames.{all_held, one_held};
 ghost use Rattle.annotation_conf.specs.ConfPairs.{Named, Held};
-ghost use Rattle.annotation_conf.specs.ConfFaults.{is_unknown, is_unheld, names_of, bound_names, of_named};
+ghost use Rattle.annotation_conf.specs.ConfFaults.{is_unknown, is_unheld, names_of, bound_names, declared_names};
+ghost use Rattle.annotation_conf.specs.FaultsTold.{is_undeclared};
 ghost use Rattle.annotation_conf.specs.FileShows.{seen_alternative};
 ghost use Rattle.annotation_conf.specs.KnownFiles.{IsKnown};
 ghost use Rattle.annotation_conf.specs.KnownMacros.{kinds_of, kinds_of_macros, kinds_by, AreFirstKinds, AreBuiltIn, either_kinds};
@@ -14,8 +15,8 @@ use mark_base::Memory;
 use std::alloc::Global;
 use std::marker::Model;
 
-/// The sorts that alternatives hold, and whether they hold a name of no type, or of no type and no
-/// relation type.
+/// The sorts that alternatives hold, and whether they hold a name that is declared, but of no entity or
+/// event type.
 #[derive(Clone, Copy, Debug, PartialEq, Eq)]
 pub struct Kinds {
     pub entity: bool,
@@ -23,7 +24,6 @@ pub struct Kinds {
     pub any: bool,
     pub relation: bool,
     pub no_type: bool,
-    pub nothing: bool,
 }
 
 impl Kinds {
@@ -34,7 +34,6 @@ impl Kinds {
         any: false,
         relation: false,
         no_type: false,
-        nothing: false,
     };
 
     /// What this or another holds.
@@ -47,7 +46,6 @@ impl Kinds {
             any: self.any || other.any,
             relation: self.relation || other.relation,
             no_type: self.no_type || other.no_type,
-            nothing: self.nothing || other.nothing,
         }
     }
 }
@@ -88,8 +86,7 @@ fn named(known: &KnownNames, name: &str) -> Kinds
     ensures { result ≡ kinds_of known.now (one_held known.now.macros (Named name.now)) }
 {
     Kinds {
-        no_type: !known.has_type(name),
-        nothing: !known.has_any(name),
+        no_type: known.has_any(name) && !known.has_type(name),
         ..Kinds::NONE
     }
 }
@@ -146,25 +143,35 @@ fn macro_kinds(alloc: Global, known: &KnownNames) -> Result<Vec<Kinds>, Memory>
     Ok(kinds)
 }
 
-/// Whether an alternative holds a name of no type.
-pub fn names_no_type(known: &KnownNames, kinds: &[Kinds], one: &Alternative) -> bool
+/// Whether a macro holds a name that is declared, but of no entity or event type.
+fn holds_no_type(known: &KnownNames, kinds: &[Kinds], name: &str) -> bool
     requires { AreFirstKinds known.now kinds.now }
-    ensures { result ≡ is_unknown (take (length kinds.now) known.now.macros) (names_of (bound_names known.now)) (seen_alternative one.now) }
+    ensures { result ≡ is_unknown (take (length kinds.now) known.now.macros) (declared_names known.now) (names_of (bound_names known.now)) (Held name.now) }
 {
-    match held(known, kinds, one) {
+    match held_macro(known, kinds, name) {
         Some(kinds) => kinds.no_type,
         None => false,
     }
 }
 
-/// Whether an alternative holds a name of no type and no relation type.
-pub fn names_nothing(known: &KnownNames, kinds: &[Kinds], one: &Alternative) -> bool
+/// Whether an alternative names no type, or holds a relation type by its name.
+pub fn names_no_type(known: &KnownNames, kinds: &[Kinds], one: &Alternative) -> bool
     requires { AreFirstKinds known.now kinds.now }
-    ensures { result ≡ is_unknown (take (length kinds.now) known.now.macros) (names_of (bound_names known.now ++ of_named known.now.relations)) (seen_alternative one.now) }
+    ensures { result ≡ is_unknown (take (length kinds.now) known.now.macros) (declared_names known.now) (names_of (bound_names known.now)) (seen_alternative one.now) }
 {
-    match held(known, kinds, one) {
-        Some(kinds) => kinds.nothing,
-        None => false,
+    match one {
+        Alternative::Named(name) => !known.has_type(name.text()),
+        Alternative::Held(name) => holds_no_type(known, kinds, name.text()),
+    }
+}
+
+/// Whether an alternative names no type and no relation type.
+pub fn is_undeclared(known: &KnownNames, one: &Alternative) -> bool
+    ensures { result ≡ is_undeclared known.now one.now }
+{
+    match one {
+        Alternative::Named(name) => !known.has_any(name.text()),
+        Alternative::Held(_) => false,
     }
 }
 

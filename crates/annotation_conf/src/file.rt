@@ -1,11 +1,12 @@
 //! A file of annotation.conf by what its lines say.
 ghost use Rattle.std.specs.Prelude.{◌≡◌, ◌≤◌, ◌==◌, length, drop, slice_index, encode_utf8_all, option_map, IfOk, OnOk, if◌then◌else◌};
-ghost use Rattle.annotation_conf.specs.ConfLines.{Before, Header, Macro, Content, kind_of, place_after};
+ghost use Rattle.std.specs.Char.{is_whitespace};
+ghost use Rattle.annotation_conf.specs.ConfLines.{Before, Header, Content, kind_of, place_after};
 ghost use Rattle.annotation_conf.specs.ConfPairs.{alternatives_of};
 ghost use Rattle.annotation_conf.specs.ConfNames.{file_of, type_line, named_line};
-ghost use Rattle.annotation_conf.specs.FileKept.{kept_type, kept_named, said_of};
+ghost use Rattle.annotation_conf.specs.FileKept.{SaysNothing, kept_type, kept_named, said_of};
 ghost use Rattle.annotation_conf.specs.FileShows.{seen_section, seen_type, seen_named, seen_macro, seen_what, seen_file, Shows};
-ghost use Rattle.annotation_conf.specs.FileGrows.{nothing_kept, with_line, with_kept_relation, with_declared, seen_place, grown, line_of};
+ghost use Rattle.annotation_conf.specs.FileGrows.{nothing_kept, with_line, with_macro, with_kept_relation, with_declared, seen_place, grown, line_of};
 
 use crate::line::{
     Line, Place, Section, What, begins_with, is_skipped, macro_parts, section_named,
@@ -17,13 +18,14 @@ use crate::pieces::{Alternative, Pieces, read_alternatives, read_pieces};
 use mark_base::{Memory, Text};
 use std::alloc::Global;
 
-/// The line of a type: how many TABs stand before it, whether it begins with a space, whether
-/// annotations may have the type, its name, and what follows.
+/// The line of a type: how many TABs stand before it, whether it begins with a space, whether other
+/// white space stands before its name, whether annotations may have the type, its name, and what follows.
 #[derive(Debug, Drop)]
 pub struct TypeLine {
     pub number: u32,
     pub depth: usize,
     pub spaced: bool,
+    pub gapped: bool,
     pub usable: bool,
     pub name: Text,
     pub pieces: Pieces,
@@ -62,7 +64,8 @@ fn read_type(alloc: Global, number: u32, characters: &[char]) -> Result<TypeLine
     ensures { IfOk result (λ line. seen_type line ≡ kept_type (type_line number characters.now)) }
 {
     let depth = tabs_before(characters);
-    let body = &characters[depth..];
+    let indented = &characters[depth..];
+    let body = trimmed(indented);
     let usable = !begins_with(body, '!');
     let named = after_mark(body);
     let end = name_end(named);
@@ -72,10 +75,21 @@ fn read_type(alloc: Global, number: u32, characters: &[char]) -> Result<TypeLine
         number,
         depth,
         spaced: begins_with(characters, ' '),
+        gapped: begins_blank(indented),
         usable,
         name,
         pieces,
     })
+}
+
+/// Whether characters begin with white space.
+fn begins_blank(characters: &[char]) -> bool
+    ensures { result ≡ is_whitespace (slice_index characters.now 0) }
+{
+    match characters.first() {
+        Some(first) => first.is_whitespace(),
+        None => false,
+    }
 }
 
 /// What follows a mark `!`, where one stands before a name.
@@ -197,21 +211,17 @@ impl File {
         }
     }
 
-    /// Adds a macro; one behind a line that names no section defines none.
+    /// Adds a macro.
     fn add_macro(
         &mut self,
         alloc: Global,
         number: u32,
-        place: Place,
         name: &[char],
         alternatives: &[char],
     ) -> Result<(), Memory>
-        ensures { OnOk result (seen_file self.new ≡ grown (seen_file self.old) (record { number = number; place = seen_place place; kind = Macro (encode_utf8_all name.now) alternatives.now })) }
+        ensures { OnOk result (seen_file self.new ≡ with_macro (with_line (seen_file self.old) number SaysNothing) (record { number = number; name = encode_utf8_all name.now; alternatives = alternatives_of alternatives.now })) }
     {
         self.add_line(number, What::Plain)?;
-        if place == Place::Nowhere {
-            return Ok(());
-        }
         self.macros
             .push(read_macro(alloc, number, name, alternatives)?)?;
         Ok(())
@@ -256,7 +266,7 @@ impl File {
             return self.add_header(number, section_named(word));
         }
         if let Some((name, alternatives)) = macro_parts(characters) {
-            self.add_macro(alloc, number, place, name, alternatives)?;
+            self.add_macro(alloc, number, name, alternatives)?;
             return Ok(place);
         }
         self.add_content(alloc, number, place, characters)?;
@@ -279,63 +289,4 @@ pub fn read_file(alloc: Global, text: &str) -> Result<File, Memory>
         place = file.add(alloc, number, place, &line)?;
     }
     Ok(file)
-}
-
-#[cfg(test)]
-mod tests {
-    use super::*;
-    use crate::count::{Count, count_of};
-    use crate::line_parts::spells;
-    use std::test::Fail;
-
-    const TEXT: &str =
-        "# a comment\n<ALL>=A|<EVENT>\n[entities]\n!A\n\t\tB\n[relations]\n R\tP:A, Q:B, <REL-TYPE>:symmetric-transitive\n<OVERLAP>\tArg1:A, Arg2:B\n[events]\nE\tX{1-3}:<ALL>|B, y\n[attributes]\nN\tArg:E\n[else]\nC\n";
-
-    /// Whether an event line is that of the text.
-    fn is_event(line: &TypeLine) -> bool {
-        match line.pieces.pairs.as_slice() {
-            [pair] => {
-                line.pieces.shapeless
-                    && line.name.text() == "E"
-                    && pair.role.text() == "X"
-                    && pair.alternatives.len() == 2
-                    && count_of(&pair.mark) == Some(Count { least: 1, most: 3 })
-            }
-            _ => false,
-        }
-    }
-
-    /// Whether a relation line is that of the text.
-    fn is_relation(line: &NamedLine) -> bool {
-        match line.pieces.keyed.as_slice() {
-            [pair] => {
-                line.number == 7
-                    && line.name.text() == "R"
-                    && line.pieces.pairs.len() == 2
-                    && pair.key.text() == "REL-TYPE"
-                    && spells(&pair.value, "symmetric-transitive")
-            }
-            _ => false,
-        }
-    }
-
-    #[test]
-    fn a_file_is_read(rt: HostRuntime) -> Result<(), Fail> {
-        let file = read_file(rt.alloc(), TEXT)?;
-        assert_eq!(rt; file.lines.len(), 14);
-        assert_eq!(rt; file.macros.len(), 1);
-        assert_eq!(rt; file.overlaps.len(), 1);
-        assert_eq!(rt; file.attributes.len(), 1);
-        assert!(rt;
-            file.entities
-                .iter()
-                .all(|line| line.depth == 2 || !line.usable)
-        );
-        assert_eq!(rt; file.entities.len(), 2);
-        assert!(rt; file.events.iter().all(|line| is_event(line)));
-        assert_eq!(rt; file.events.len(), 1);
-        assert!(rt; file.relations.iter().all(|line| is_relation(line)));
-        assert_eq!(rt; file.relations.len(), 1);
-        Ok(())
-    }
 }

@@ -46,6 +46,7 @@ mod overlap_line;
 mod pieces;
 mod relation_type;
 mod role;
+mod shared_values;
 mod sound_laws;
 mod worked_rows;
 mod write_laws;

@@ -1,6 +1,6 @@
 //! What stands behind a name: pairs of a role, a mark and alternatives.
-ghost use Rattle.std.specs.Prelude.{◌≡◌, ◌∷◌, [], map, IfOk, OnOk, encode_utf8_all};
-ghost use Rattle.annotation_conf.specs.ConfPairs.{alternative_of, alternatives_of, piece_of, pieces_of};
+ghost use Rattle.std.specs.Prelude.{◌≡◌, ◌∷◌, [], map, IfOk, OnOk, encode_utf8_all, bytes_eq, codes};
+ghost use Rattle.annotation_conf.specs.ConfPairs.{Keyed, alternative_of, alternatives_of, piece_of, pieces_of};
 ghost use Rattle.annotation_conf.specs.FileKept.{behind_of};
 ghost use Rattle.annotation_conf.specs.FileShows.{seen_alternative, seen_pair, seen_pieces};
 ghost use Rattle.annotation_conf.specs.FileGrows.{pair_of, seen_piece, with_piece, nothing_behind};
@@ -31,11 +31,14 @@ pub struct KeyedPair {
     pub value: Vec<char>,
 }
 
-/// What stands behind a name, by sorts: whether some piece has no `:`, the pairs with a bracketed key,
-/// and the role pairs, each in their order.
+/// What stands behind a name, by sorts: whether some piece has no `:`, whether a pair of kinds stands
+/// there, whether a role pair stands behind one, the pairs with a bracketed key, and the role pairs, each
+/// in their order.
 #[derive(Debug, Drop)]
 pub struct Pieces {
     pub shapeless: bool,
+    pub kinds: bool,
+    pub late: bool,
     pub keyed: Vec<KeyedPair>,
     pub pairs: Vec<RolePair>,
 }
@@ -103,6 +106,13 @@ fn read_piece(alloc: Global, characters: &[char]) -> Result<Piece, Memory>
     }
 }
 
+/// Whether the key of a pair is that of kinds.
+pub fn has_kinds_key(pair: &KeyedPair) -> bool
+    ensures { result ≡ bytes_eq pair.now.key (codes "OVL-TYPE") }
+{
+    pair.key.text() == "OVL-TYPE"
+}
+
 impl Pieces {
     /// No pieces.
     fn new(alloc: Global) -> Self
@@ -110,9 +120,20 @@ impl Pieces {
     {
         Pieces {
             shapeless: false,
+            kinds: false,
+            late: false,
             keyed: Vec::new(alloc),
             pairs: Vec::new(alloc),
         }
+    }
+
+    /// Adds a pair with a bracketed key behind the others.
+    fn add_keyed(&mut self, pair: KeyedPair) -> Result<(), Memory>
+        ensures { OnOk result (seen_pieces self.new ≡ with_piece (seen_pieces self.old) (Keyed pair.key pair.value.items)) }
+    {
+        self.kinds = self.kinds || has_kinds_key(&pair);
+        self.keyed.push(pair)?;
+        Ok(())
     }
 
     /// Adds a piece behind the others.
@@ -121,8 +142,11 @@ impl Pieces {
     {
         match piece {
             Piece::Shapeless => self.shapeless = true,
-            Piece::Keyed(pair) => self.keyed.push(pair)?,
-            Piece::Pair(pair) => self.pairs.push(pair)?,
+            Piece::Keyed(pair) => self.add_keyed(pair)?,
+            Piece::Pair(pair) => {
+                self.late = self.late || self.kinds;
+                self.pairs.push(pair)?;
+            }
         }
         Ok(())
     }
