@@ -19,8 +19,6 @@ mod lists;
 mod note_forms;
 mod span_forms;
 mod spelling;
-#[cfg(test)]
-mod tests;
 mod worked_rows;
 
 pub use crate::command_body::read_command;

@@ -9,7 +9,7 @@ use Rattle.mark_base.specs.declared.ann_id.Kind.{Kind}
 use Rattle.mark_base.specs.declared.ann_id.Kind.TheVariants as letter
 use Rattle.layer_model.specs.declared.mark.Mark.{Mark}
 use Rattle.layer_model.specs.Annotations.{Annotations}
-use Rattle.layer_model.specs.Classes.{letter_place}
+use Rattle.layer_model.specs.Classes.{letter_place, is_among, ascending}
 use Rattle.layer_model.specs.Layers.{mark_at, numbers}
 use Rattle.mark_base.specs.ReadIds.{id_at}
 use Rattle.layer_core.specs.Ids.{id_place, ids_of, ids_of_letter, letters}
@@ -17,7 +17,9 @@ use Rattle.layer_core.specs.Rules.{named_by}
 use Rattle.layer_core.specs.PairRules.{is_id}
 use Rattle.layer_core.specs.Drafts.{falls, falls_by}
 use Rattle.layer_core.specs.Falls.{falls_next, same_ids}
+use Rattle.std.proofs.lemmas.Bool.Decides.{nat_tests}
 use Rattle.mark_base.proofs.IdLemmas.{id_at-id}
+use Rattle.layer_model.proofs.IdSets.{has_rank-ascending}
 use Rattle.layer_core.proofs.LawLemmas.{either, same_number, stands}
 
 -- ---- two IDs at one place are one
@@ -89,6 +91,33 @@ kept_among p named [] = none_among (p named)
 kept_among p named (x ∷ xs) =
     any_cond (is_id named) (p x) x (filter p xs)
     ∙ step (p named) (p x) (is_id named x) (list_any (is_id named) xs) (list_any (is_id named) (filter p xs)) (λ e. ap p (one_id named x e)) (kept_among p named xs)
+
+-- ---- an ID that is sought in an ordered set
+
+turned : (a b : ℕ) → (a == b) ≡ (b == a)
+turned a b = grind (arith, nat_tests)
+
+pub among_ids : (id : AnnId) (ids : List AnnId) → is_among id ids ≡ list_any (is_id id) ids
+among_ids id [] = refl
+among_ids id (x ∷ xs) = ap (λ b. b || is_among id xs) (turned (id_place x) (id_place id)) ∙ ap (λ b. is_id id x || b) (among_ids id xs)
+
+-- in ascending order they are the same IDs
+among_set : (id : AnnId) (ids : List AnnId) → list_any (is_id id) (ascending ids) ≡ list_any (is_id id) ids
+among_set id ids = sym (among_ids id (ascending ids)) ∙ has_rank-ascending ids (id_place id) ∙ among_ids id ids
+
+falls_among : (layer : Annotations) (gone : AnnId) (fallen : List AnnId) (id : AnnId) → falls_next layer gone (ascending fallen) id ≡ falls_next layer gone fallen id
+falls_among layer gone fallen id = ap (λ b. is_id gone id || b) (split (mark_at layer id))
+  where
+    split : (o : Option Mark)
+        → option_map_or (λ mark. list_any (λ named. is_id gone named || list_any (is_id named) (ascending fallen)) (named_by mark)) o false
+        ≡ option_map_or (λ mark. list_any (λ named. is_id gone named || list_any (is_id named) fallen) (named_by mark)) o false
+    split None = refl
+    split (Some mark) = any_same _ _ (λ named. ap (λ b. is_id gone named || b) (among_set named fallen)) (named_by mark)
+
+pub next_among : (layer : Annotations) (gone : AnnId) (ids fallen before next : List AnnId) → before ≡ ascending fallen → next ≡ filter (falls_next layer gone before) ids
+    → next ≡ filter (falls_next layer gone fallen) ids
+next_among layer gone ids fallen before next set is =
+    is ∙ ap (λ f. filter (falls_next layer gone f) ids) set ∙ filter_same _ (falls_next layer gone fallen) (falls_among layer gone fallen) ids
 
 -- ---- an ID that something stands under is among those of the layer
 

@@ -6,6 +6,7 @@ mod CommitLemmas
 mod FirstSeenLemmas
 mod FlawLemmas
 mod FullLemmas
+mod GoneLemmas
 pub mod LawLemmas
 mod OverlapLemmas
 mod PairLemmas

@@ -1,4 +1,4 @@
--- Events that begin chains, held by number.
+-- Events that begin chains, held by number (private calls only).
 use Rattle.std.specs.Prelude.{◌≡◌, ℕ, Bool, List, is_some}
 use Rattle.std.specs.Ordering.{nat_cmp}
 use Rattle.std.specs.FinMap as finite

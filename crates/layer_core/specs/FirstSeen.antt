@@ -1,4 +1,4 @@
--- Annotations that stand for the same numbers as one before them.
+-- Annotations that stand for the same numbers as one before them (private calls only).
 use Rattle.std.specs.Prelude.{ℕ, Bool, List, [], ◌∷◌, ◌++◌, Option, None, option_map, find}
 use Rattle.std.specs.Option.{option_or}
 use Rattle.std.specs.List.{flat_map}

@@ -1,4 +1,4 @@
--- A layer that a command makes, as the code keeps it.
+-- A layer that a command makes, as the code keeps it (private calls only).
 use Rattle.layer_core.specs.declared.draft.Draft as kept
 use Rattle.layer_core.specs.Drafts.{Draft}
 

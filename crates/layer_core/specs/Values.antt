@@ -1,4 +1,4 @@
--- The value that a command gives to an attribute, as the code keeps it.
+-- The value that a command gives to an attribute, as the code keeps it (private calls only).
 use Rattle.layer_core.specs.declared.valued.Valued as kept
 use Rattle.layer_core.specs.declared.valued.Valued.TheVariants as given
 use Rattle.layer_core.specs.Fields.{Valued, Undeclared, Declared}

@@ -1,4 +1,4 @@
--- The rules from the first to the twelfth look at one annotation or class alone and at what it names: which of them is broken first, and where.
+-- The rules from the first to the twelfth look at one annotation or class alone and at what it names: which of them is broken first, and where (private calls only).
 use Rattle.std.specs.Prelude.{◌≡◌, ℕ, ◌+◌, ◌<◌, ◌≤◌, Bool, true, false, not, length, List, [], ◌∷◌, map, nat_le, Option, Some, None, option_map, if◌then◌else◌}
 use Rattle.std.specs.Option.{option_or, option_map_or}
 use Rattle.std.specs.FinMap as finite

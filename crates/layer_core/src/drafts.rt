@@ -382,7 +382,7 @@ fn load(loaded: &Layer) -> Result<Option<Draft>, Memory>
 }
 
 /// The layer that a command makes, where its names are declared and its IDs lead to what it changes. Cost:
-/// a copy of the layer.
+/// a copy of the layer, and for a purge what `falling` and `take_all_away` cost.
 pub(crate) fn draft(
     alloc: Global,
     conf: &Conf,

@@ -12,31 +12,26 @@ ghost use Rattle.layer_core.specs.Rules.{named_by};
 
 use crate::finds::ids_of;
 use crate::targets::{id_at, is_id};
-use layer_model::{Event, Layer};
+use layer_model::{Event, IdSet, Layer};
 use mark_base::{AnnId, Arg, Kind, Memory};
 use std::alloc::Global;
 
 /// Whether an ID is among some.
-fn has_id(ids: &[AnnId], id: AnnId) -> bool
+fn has_id(ids: &IdSet, id: AnnId) -> bool
     ensures { result ≡ list_any (is_id id) ids.now }
 {
-    for other in ids {
-        if is_id(id, *other) {
-            return true;
-        }
-    }
-    false
+    ids.has(id)
 }
 
 /// Whether an ID is the one that goes or is among those that fell.
-fn is_fallen(gone: AnnId, fallen: &[AnnId], id: AnnId) -> bool
+fn is_fallen(gone: AnnId, fallen: &IdSet, id: AnnId) -> bool
     ensures { result ≡ (is_id gone id || list_any (is_id id) fallen.now) }
 {
     is_id(gone, id) || has_id(fallen, id)
 }
 
 /// Whether what an annotation names goes or fell.
-fn names_fallen(layer: &Layer, gone: AnnId, fallen: &[AnnId], id: AnnId) -> bool
+fn names_fallen(layer: &Layer, gone: AnnId, fallen: &IdSet, id: AnnId) -> bool
     ensures { result ≡ option_map_or (λ mark. list_any (λ named. is_id gone named || list_any (is_id named) fallen.now) (named_by mark)) (mark_at layer.now id) false }
 {
     match id.kind {
@@ -67,7 +62,7 @@ fn names_fallen(layer: &Layer, gone: AnnId, fallen: &[AnnId], id: AnnId) -> bool
 }
 
 /// Whether an argument leads to what goes or fell.
-fn leads_to_fallen(args: &[Arg], gone: AnnId, fallen: &[AnnId]) -> bool
+fn leads_to_fallen(args: &[Arg], gone: AnnId, fallen: &IdSet) -> bool
     ensures { result ≡ list_any (λ named. is_id gone named || list_any (is_id named) fallen.now) (map (λ arg. arg.target) args.now) }
 {
     for arg in args {
@@ -79,7 +74,7 @@ fn leads_to_fallen(args: &[Arg], gone: AnnId, fallen: &[AnnId]) -> bool
 }
 
 /// Whether an event names what goes or fell.
-fn event_names_fallen(event: &Event, gone: AnnId, fallen: &[AnnId]) -> bool
+fn event_names_fallen(event: &Event, gone: AnnId, fallen: &IdSet) -> bool
     ensures { result ≡ list_any (λ named. is_id gone named || list_any (is_id named) fallen.now) (named_by (Mark.Event event.now)) }
 {
     is_fallen(gone, fallen, id_at(Kind::Text, event.trigger))
@@ -87,19 +82,19 @@ fn event_names_fallen(event: &Event, gone: AnnId, fallen: &[AnnId]) -> bool
 }
 
 /// Whether an annotation falls in the next round.
-fn falls_next(layer: &Layer, gone: AnnId, fallen: &[AnnId], id: AnnId) -> bool
+fn falls_next(layer: &Layer, gone: AnnId, fallen: &IdSet, id: AnnId) -> bool
     ensures { result ≡ falls_next layer.now gone fallen.now id }
 {
     is_id(gone, id) || names_fallen(layer, gone, fallen, id)
 }
 
-/// The IDs that fall in the next round, of some.
-fn fall_next(
+/// The IDs that fall in the round behind those that fell, of some.
+fn fall_behind(
     alloc: Global,
     layer: &Layer,
     gone: AnnId,
     ids: &[AnnId],
-    fallen: &[AnnId],
+    fallen: &IdSet,
 ) -> Result<Vec<AnnId>, Memory>
     ensures { IfOk result (λ next. next.items ≡ filter (falls_next layer.now gone fallen.now) ids.now) }
 {
@@ -109,6 +104,22 @@ fn fall_next(
             next.push(*id)?;
         }
     }
+    Ok(next)
+}
+
+/// The IDs that fall in the next round, of some. Cost: what the IDs name, times the logarithm of the
+/// number that fell.
+fn fall_next(
+    alloc: Global,
+    layer: &Layer,
+    gone: AnnId,
+    ids: &[AnnId],
+    fallen: &[AnnId],
+) -> Result<Vec<AnnId>, Memory>
+    ensures { IfOk result (λ next. next.items ≡ filter (falls_next layer.now gone fallen.now) ids.now) }
+{
+    let before = IdSet::of(alloc, fallen)?;
+    let next = fall_behind(alloc, layer, gone, ids, &before)?;
     Ok(next)
 }
 
@@ -146,8 +157,9 @@ fn are_same(a: &[AnnId], b: &[AnnId]) -> bool
     right.is_empty()
 }
 
-/// What falls with an annotation that goes: it, what names it, what names that, and so on. Cost: the
-/// annotations, and what has fallen, for each round.
+/// What falls with an annotation that goes: it, what names it, what names that, and so on. Cost: for each
+/// round, what the annotations name, times the logarithm of the number that fell. There is one round for
+/// each step of the longest way from name to name, and one more.
 pub(crate) fn falling(alloc: Global, layer: &Layer, gone: AnnId) -> Result<Vec<AnnId>, Memory>
     ensures { IfOk result (λ fallen. fallen.items ≡ filter (falls layer.now gone) (ids_of layer.now)) }
 {

@@ -3,8 +3,9 @@
 //! [`check`] answers Ok exactly for a [`Layer`](layer_model::Layer) that is well-formed for a configuration
 //! and a text, and else its least flaw, with its place; [`may_commit`] tells the first event that lacks
 //! arguments. A [`Work`] is a well-formed layer that commands change. [`Work::apply`] carries a [`Command`]
-//! out, or refuses it by the first rule that it breaks and leaves the layer as it was. What each command does
-//! is defined in `specs/Drafts.antt`, and what it breaks in `specs/Commands.antt`.
+//! out, or refuses it by the first rule that it breaks and leaves the layer as it was; [`Work::carry_out`]
+//! does the same for a command that the caller keeps. What each command does is defined in
+//! `specs/Drafts.antt`, and what it breaks in `specs/Commands.antt`.
 //!
 //! ```text
 //! check(alloc, &layer, &doc, &conf)?;
@@ -40,9 +41,8 @@ mod same_events;
 mod same_relations;
 mod same_spans;
 mod scene;
+mod shared;
 mod targets;
-#[cfg(test)]
-mod tests;
 mod text_rules;
 mod told;
 mod valued;

@@ -219,21 +219,10 @@ impl Work {
         &self.layer
     }
 
-    /// Carries a command out that the caller keeps.
-    fn carry_out(&mut self, command: &Command) -> Result<Done, Refusal>
-        ensures done { IfOk result (λ done. apply self.old.conf (length self.old.text) self.old.layer command.now ≡ Ok (record { layer = self.new.layer; made = done.made })) }
-        ensures refused { IfErr result (IsRefusal self.old.conf (length self.old.text) self.old.layer command.now) }
-        ensures kept { OnErr result (self.new ≡ self.old) }
-        ensures conf { self.new.conf ≡ self.old.conf }
-        ensures text { self.new.text ≡ self.old.text }
-    {
-        let made = accepted(self.alloc, &self.conf, &self.doc, &self.layer, command)?;
-        Ok(settle(&mut self.layer, made))
-    }
-
     /// Carries a command out. A refusal is the first rule by number that the command breaks, by its own
     /// fields or by the layer that it would make, and leaves the layer as it was. Cost: a copy of the
-    /// layer and a check of the copy.
+    /// layer and a check of the copy; for a purge besides, for each step of the longest way from name to
+    /// name, a look-up of what each annotation names.
     pub fn apply(&mut self, command: Command) -> Result<Done, Refusal>
         ensures done { IfOk result (λ done. apply self.old.conf (length self.old.text) self.old.layer command ≡ Ok (record { layer = self.new.layer; made = done.made })) }
         ensures refused { IfErr result (IsRefusal self.old.conf (length self.old.text) self.old.layer command) }
@@ -242,5 +231,18 @@ impl Work {
         ensures text { self.new.text ≡ self.old.text }
     {
         self.carry_out(&command)
+    }
+
+    /// Carries a command out that the caller keeps, as `apply` does, and copies no more of it than the
+    /// layer takes in. Cost: as `apply`.
+    pub fn carry_out(&mut self, command: &Command) -> Result<Done, Refusal>
+        ensures done { IfOk result (λ done. apply self.old.conf (length self.old.text) self.old.layer command.now ≡ Ok (record { layer = self.new.layer; made = done.made })) }
+        ensures refused { IfErr result (IsRefusal self.old.conf (length self.old.text) self.old.layer command.now) }
+        ensures kept { OnErr result (self.new ≡ self.old) }
+        ensures conf { self.new.conf ≡ self.old.conf }
+        ensures text { self.new.text ≡ self.old.text }
+    {
+        let made = accepted(self.alloc, &self.conf, &self.doc, &self.layer, command)?;
+        Ok(settle(&mut self.layer, made))
     }
 }

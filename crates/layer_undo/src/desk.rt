@@ -7,7 +7,7 @@ ghost use Rattle.layer_undo.specs.Desks.{IsDesk, after_redo, after_undo, layer_o
 ghost use Rattle.layer_undo.specs.Replays.{replay};
 ghost use Rattle.layer_undo.specs.Starts.{IsDeskStart, IsRefused};
 
-use crate::moves::{copy_with_room, make_room, move_last};
+use crate::moves::{make_room, move_last};
 use crate::replay::{reopen_with, repeat_last};
 use crate::scripts::try_scripts;
 use crate::{DeskStart, Script};
@@ -142,7 +142,7 @@ impl Desk {
 
     /// Carries a command out. The commands that were undone are gone then. A refusal leaves the desk as
     /// it was: `DeskFull` where 4,096 commands are done, and else the first rule by number that the
-    /// command breaks. Cost: a copy of the command, and what the command itself costs.
+    /// command breaks. Cost: what the command itself costs.
     pub fn perform(&mut self, command: Command) -> Result<Done, Refusal>
         ensures done { IfOk result (λ done. performed self.old command ≡ Ok (record { desk = self.new; made = done.made })) }
         ensures refused { IfErr result (IsRefused (performed self.old command)) }
@@ -151,9 +151,9 @@ impl Desk {
         if self.done.len() >= 4096 {
             return Err(Refusal::Rule(Rule::DeskFull));
         }
-        let copy = copy_with_room(self.alloc, &command, &mut self.done)?;
-        let done = self.work.apply(command)?;
-        self.done.push_reserved(copy);
+        make_room(&mut self.done)?;
+        let done = self.work.carry_out(&command)?;
+        self.done.push_reserved(command);
         self.undone.clear();
         Ok(done)
     }
@@ -189,7 +189,7 @@ impl Desk {
         }
         make_room(&mut self.done)?;
         let at = self.done.len() as u32;
-        repeat_last(self.alloc, &mut self.work, at, &self.undone)?;
+        repeat_last(&mut self.work, at, &self.undone)?;
         move_last(&mut self.undone, &mut self.done);
         Ok(())
     }

@@ -21,8 +21,7 @@ mod moves;
 mod replay;
 mod script;
 mod scripts;
-#[cfg(test)]
-mod tests;
+mod shared;
 mod worked_rows;
 
 pub use crate::desk::Desk;

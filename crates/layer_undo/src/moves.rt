@@ -1,11 +1,10 @@
 //! Commands that move from one script of a desk to the other.
-ghost use Rattle.std.specs.Prelude.{◌≡◌, ◌<◌, ◌∷◌, [], ◌++◌, IfOk, OnOk, Some, option_map, vec_len};
+ghost use Rattle.std.specs.Prelude.{◌≡◌, ◌<◌, ◌∷◌, [], ◌++◌, OnOk, Some, option_map, vec_len};
 ghost use Rattle.std.specs.Vec.{vec_capacity};
 ghost use Rattle.layer_undo.specs.Desks.{but_last, last_of};
 
 use layer_core::Command;
 use mark_base::Memory;
-use std::alloc::Global;
 
 /// Makes room for one more command.
 pub(crate) fn make_room(commands: &mut Vec<Command>) -> Result<(), Memory>
@@ -14,21 +13,6 @@ pub(crate) fn make_room(commands: &mut Vec<Command>) -> Result<(), Memory>
 {
     commands.try_reserve(1)?;
     Ok(())
-}
-
-/// A copy of a command, and room for it. Cost: the length of the command.
-pub(crate) fn copy_with_room(
-    alloc: Global,
-    command: &Command,
-    commands: &mut Vec<Command>,
-) -> Result<Command, Memory>
-    ensures copy { IfOk result (λ copy. copy ≡ command.now) }
-    ensures room { OnOk result (vec_len commands.new < vec_capacity commands.new) }
-    ensures same { commands.new.items ≡ commands.old.items }
-{
-    let copy = command.copy(alloc)?;
-    make_room(commands)?;
-    Ok(copy)
 }
 
 /// Moves the last command of one list to the end of another, which has room for it.

@@ -59,26 +59,23 @@ pub(crate) fn reopen(
     }
 }
 
-/// Carries a copy of the command of this index out. A refusal leaves the work as it was.
-fn carry_out(alloc: Global, work: &mut Work, at: u32, command: &Command) -> Result<(), DeskStart>
+/// Carries the command of this index out. A refusal leaves the work as it was.
+fn carry_out(work: &mut Work, at: u32, command: &Command) -> Result<(), DeskStart>
     ensures done { OnOk result (replay_from work.old.conf (length work.old.text) at work.old.layer (command.now ∷ []) ≡ Ok work.new.layer) }
     ensures stopped { IfErr result (IsStop (replay_from work.old.conf (length work.old.text) at work.old.layer (command.now ∷ []))) }
     ensures kept { OnErr result (work.new ≡ work.old) }
     ensures conf { work.new.conf ≡ work.old.conf }
     ensures text { work.new.text ≡ work.old.text }
 {
-    let command = command.copy(alloc)?;
-    match work.apply(command) {
+    match work.carry_out(command) {
         Ok(_) => Ok(()),
         Err(Refusal::Rule(rule)) => Err(DeskStart::At(at, rule)),
         Err(Refusal::Memory) => Err(DeskStart::Memory),
     }
 }
 
-/// Carries copies of these commands out in turn, where the first has this index. Cost: as that many
-/// commands.
+/// Carries these commands out in turn, where the first has this index. Cost: as that many commands.
 pub(crate) fn replay_forward(
-    alloc: Global,
     work: &mut Work,
     at: u32,
     commands: &[Command],
@@ -92,21 +89,16 @@ pub(crate) fn replay_forward(
     let mut index = at;
     let mut left = commands;
     while let [command, rest @ ..] = left {
-        carry_out(alloc, work, index, command)?;
+        carry_out(work, index, command)?;
         index += 1;
         left = rest;
     }
     Ok(())
 }
 
-/// Carries copies of these commands out from the last to the first, where the last has this index. Cost:
-/// as that many commands.
-pub(crate) fn replay_back(
-    alloc: Global,
-    work: &mut Work,
-    at: u32,
-    commands: &[Command],
-) -> Result<(), DeskStart>
+/// Carries these commands out from the last to the first, where the last has this index. Cost: as that
+/// many commands.
+pub(crate) fn replay_back(work: &mut Work, at: u32, commands: &[Command]) -> Result<(), DeskStart>
     requires { at + length commands.now ≤ 4294967295 }
     ensures done { OnOk result (replay_from work.old.conf (length work.old.text) at work.old.layer (reverse commands.now) ≡ Ok work.new.layer) }
     ensures stopped { IfErr result (IsStop (replay_from work.old.conf (length work.old.text) at work.old.layer (reverse commands.now))) }
@@ -116,7 +108,7 @@ pub(crate) fn replay_back(
     let mut index = at;
     let mut left = commands;
     while let [rest @ .., command] = left {
-        carry_out(alloc, work, index, command)?;
+        carry_out(work, index, command)?;
         index += 1;
         left = rest;
     }
@@ -134,15 +126,15 @@ fn want_of_memory(stop: DeskStart) -> Memory
     }
 }
 
-/// Carries copies of these commands out in turn, of which none is refused. Cost: as that many commands.
-fn repeat(alloc: Global, work: &mut Work, commands: &[Command]) -> Result<(), Memory>
+/// Carries these commands out in turn, of which none is refused. Cost: as that many commands.
+fn repeat(work: &mut Work, commands: &[Command]) -> Result<(), Memory>
     requires few { length commands.now ≤ 4096 }
     requires accepted { IsOk (replay_from work.old.conf (length work.old.text) 0 work.old.layer commands.now) }
     ensures done { OnOk result (replay_from work.old.conf (length work.old.text) 0 work.old.layer commands.now ≡ Ok work.new.layer) }
     ensures conf { work.new.conf ≡ work.old.conf }
     ensures text { work.new.text ≡ work.old.text }
 {
-    match replay_forward(alloc, work, 0, commands) {
+    match replay_forward(work, 0, commands) {
         Ok(()) => Ok(()),
         Err(stop) => Err(want_of_memory(stop)),
     }
@@ -165,33 +157,28 @@ pub(crate) fn reopen_with(
     ensures text { IfOk result (λ work. work.text ≡ arc_value doc.now) }
 {
     let mut work = reopen(alloc, base, doc, conf)?;
-    repeat(alloc, &mut work, commands)?;
+    repeat(&mut work, commands)?;
     Ok(work)
 }
 
-/// Carries a copy of a command out that is not refused. Want of memory leaves the work as it was. Cost: as
-/// the command.
-fn repeat_one(alloc: Global, work: &mut Work, at: u32, command: &Command) -> Result<(), Memory>
+/// Carries a command out that is not refused. Want of memory leaves the work as it was. Cost: as the
+/// command.
+fn repeat_one(work: &mut Work, at: u32, command: &Command) -> Result<(), Memory>
     requires { IsOk (replay_from work.old.conf (length work.old.text) at work.old.layer (command.now ∷ [])) }
     ensures done { OnOk result (replay_from work.old.conf (length work.old.text) at work.old.layer (command.now ∷ []) ≡ Ok work.new.layer) }
     ensures kept { OnErr result (work.new ≡ work.old) }
     ensures conf { work.new.conf ≡ work.old.conf }
     ensures text { work.new.text ≡ work.old.text }
 {
-    match carry_out(alloc, work, at, command) {
+    match carry_out(work, at, command) {
         Ok(()) => Ok(()),
         Err(stop) => Err(want_of_memory(stop)),
     }
 }
 
-/// Carries a copy of the last of some commands out, which is not refused. Want of memory leaves the work
-/// as it was. Cost: as the command.
-pub(crate) fn repeat_last(
-    alloc: Global,
-    work: &mut Work,
-    at: u32,
-    commands: &[Command],
-) -> Result<(), Memory>
+/// Carries the last of some commands out, which is not refused. Want of memory leaves the work as it was.
+/// Cost: as the command.
+pub(crate) fn repeat_last(work: &mut Work, at: u32, commands: &[Command]) -> Result<(), Memory>
     requires some { 0 < length commands.now }
     requires accepted { (command : Command) → last_of commands.now ≡ Some command → IsOk (replay_from work.old.conf (length work.old.text) at work.old.layer (command ∷ [])) }
     ensures done { OnOk result ((command : Command) → last_of commands.now ≡ Some command → replay_from work.old.conf (length work.old.text) at work.old.layer (command ∷ []) ≡ Ok work.new.layer) }
@@ -200,7 +187,7 @@ pub(crate) fn repeat_last(
     ensures text { work.new.text ≡ work.old.text }
 {
     match commands.last() {
-        Some(command) => repeat_one(alloc, work, at, command),
+        Some(command) => repeat_one(work, at, command),
         None => unreachable!(),
     }
 }

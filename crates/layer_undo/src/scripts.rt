@@ -41,7 +41,7 @@ fn try_undone(
         return Ok(());
     }
     let mut redone = reopen(alloc, layer, doc, conf)?;
-    replay_back(alloc, &mut redone, at, undone)
+    replay_back(&mut redone, at, undone)
 }
 
 /// Carries done commands out on a work, and tries undone ones behind them.
@@ -62,7 +62,7 @@ fn carry_scripts(
     ensures conf { work.new.conf ≡ work.old.conf }
     ensures text { work.new.text ≡ work.old.text }
 {
-    replay_forward(alloc, work, 0, done)?;
+    replay_forward(work, 0, done)?;
     try_undone(alloc, work.layer(), doc, conf, done.len() as u32, undone)
 }
 

@@ -9,7 +9,7 @@ invariant_of-self-2 c =
     let before = c.self.inside in
     let desk : DeskState = record { conf = arc_value before.conf; text = arc_value before.doc; base = arc_value before.base; done = before.done.items; undone = before.undone.items } in
     let few : length before.done.items < 4096 = omega (arith, before.done.ok.0) in
-    perform_works desk before.work c.apply.new.self c.args.command c.in_ok-done.done.made c.push_reserved.new.self.items c.clear.new.self.items c.self.invariant few
-    c.in_ok-done.ensures.done c.apply.ensures.conf c.apply.ensures.text
-    (c.push_reserved.ensures.items ∙ ap (λ xs. xs ++ c.in_ok-copy.copy ∷ []) c.copy_with_room.ensures.same ∙ ap (λ x. before.done.items ++ x ∷ []) c.in_ok-copy.ensures.copy)
+    perform_works desk before.work c.carry_out.new.self c.args.command c.in_ok-done.done.made c.push_reserved.new.self.items c.clear.new.self.items c.self.invariant few
+    c.in_ok-done.ensures.done c.carry_out.ensures.conf c.carry_out.ensures.text
+    (c.push_reserved.ensures.items ∙ ap (λ xs. xs ++ c.args.command ∷ []) c.make_room.ensures.same)
     c.clear.ensures.items

@@ -1,6 +1,6 @@
 use Rattle.std.proofs.Common.{◌≡◌, ◌++◌, drop, filter}
 use Rattle.layer_core.specs.Falls.{falls_next}
-use Rattle.layer_core.proofs.falling.fall_next.Given as goal
+use Rattle.layer_core.proofs.falling.fall_behind.Given as goal
 
 abbrev pub invariant-loop-id : goal.invariant-loop-id
 invariant-loop-id l =
