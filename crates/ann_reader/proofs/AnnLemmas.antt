@@ -20,7 +20,7 @@ use Rattle.ann_reader.specs.AnnFaults.{with_line, layer_of}
 use Rattle.ann_reader.specs.AnnFiles.{HasMark, is_line_of, is_span_word}
 use Rattle.ann_reader.proofs.SaidLemmas.{line_puts, lines_keep, lines_came, none_there}
 use Rattle.ann_reader.proofs.CleanLemmas.{Found, Clean, clean, own_found, trigger_fits, marked, said_found, later_none, unmapped}
-use Rattle.ann_reader.proofs.FormFacts.{own_first, sorts_fit}
+use Rattle.ann_reader.proofs.FormFacts.{own_head, sorts_fit}
 
 -- ---- the numbers of lines rise
 
@@ -60,7 +60,7 @@ heads id line h =
     let P : Option AnnId → Type 0 = λ o. own_id (form_of line.bytes) ≡ o → option_map_or (is_id id) o false ≡ true → is_headed id line ≡ true in
     let cases : P (own_id (form_of line.bytes)) = elim (own_id (form_of line.bytes)) as P [
       | None ↦ λ e t. absurd (false≢true t)
-      | Some own ↦ λ e t. ap (λ o. option_map_or (is_id id) o false) (own_first line.bytes own e) ∙ t
+      | Some own ↦ λ e t. ap (λ o. option_map_or (is_id id) o false) (own_head line.bytes own e) ∙ t
     ] in cases refl h
 
 found_before : (id : AnnId) (n : ℕ) (before rest : List Line) → Below n before → list_any (is_line_of id) before ≡ true

@@ -1,11 +1,12 @@
 -- A line without a fault spells an annotation or says something of a class.
 use Rattle.std.proofs.Common.{◌≡◌, ℕ, Bool, true, false, not, ◌&&◌, List, [], ◌∷◌, refl, sym, ◌∙◌, ap, subst, Option, Some, None, cond, map, length}
-use Rattle.std.specs.Option.{is_none, option_map_or, option_or, option_and_then, option_map}
+use Rattle.std.specs.Option.{is_none, is_some, option_map_or, option_or, option_and_then, option_map}
 use Rattle.std.specs.List.{list_any, find, filter_map, cons_option}
 use Rattle.std.proofs.lemmas.Bool.{or_parts, not-false}
 use Rattle.mark_base.specs.declared.ann_id.AnnId.{AnnId}
 use Rattle.mark_base.specs.declared.places.TypeId.{TypeId}
 use Rattle.mark_base.specs.declared.arguments.Arg.{Arg}
+use Rattle.mark_base.specs.Names.{name_fault}
 use Rattle.annotation_conf.specs.Configurations.{Configuration}
 use Rattle.annotation_conf.specs.Lookups.{values_of}
 use Rattle.layer_model.specs.declared.mark.Mark.{Mark}
@@ -22,7 +23,7 @@ use Rattle.mark_base.specs.ReadIds.{id_read}
 use Rattle.ann_reader.specs.Words.{all_of}
 use Rattle.ann_reader.specs.NamesRead.{type_read, event_read, relation_read, attribute_read, value_read}
 use Rattle.ann_reader.specs.Forms.{Pair, Form, BadForm, TextForm, EventForm, RelationForm, AttributeForm, ClassForm, NormalForm, NoteForm, form_of}
-use Rattle.ann_reader.specs.References.{Reference, references, may_stand, of_letters, own_word, own_id, is_own_misspelt, is_misspelt}
+use Rattle.ann_reader.specs.References.{Reference, references, may_stand, of_letters, own_word, own_id, is_own_misspelt, is_misspelt, has_no_letter}
 use Rattle.ann_reader.specs.Marks.{arg_of, args_of, arg_by, Ends, ends_of, is_role, span_by, event_by, relation_by, attribute_by, normal_by, mark_of, said_of, said_by}
 use Rattle.ann_reader.specs.LineFaults.{is_bad_line, has_bad_id, is_twice, has_unknown_type, has_barred_type, first_absent, first_unfit, wanted_of, has_unknown_role, has_unknown_value, line_rule, line_fault, naming_rule, value_rule}
 use Rattle.ann_reader.specs.AnnFiles.{is_span_word}
@@ -205,7 +206,8 @@ marked conf all line (NoteForm first kind target text) word clean e =
     let ids = or_parts (is_none (id_read target)) false spelt.1 in
     let own = found (id_read target) ids.0 in
     let made : AnnId → Mark = λ id. sort.Note (record { kind = kind; target = id; text = text }) in
-    (_, ap (λ b. cond (not b) (option_map made (id_read target)) None) clean.types ∙ ap (option_map made) own.1)
+    let named = or_parts (is_some (name_fault kind)) (list_any has_no_letter (references (NoteForm first kind target text))) clean.formed in
+    (_, ap (λ b. cond (not b) (option_map made (id_read target)) None) named.0 ∙ ap (option_map made) own.1)
 
 -- one of a class says what it says
 pub said_found : (conf : Configuration) (all : List Line) (line : Line) (kind : List ℕ) (ids : List (List ℕ))

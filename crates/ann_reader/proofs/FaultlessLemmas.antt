@@ -1,5 +1,5 @@
 -- A file of a layer has no fault.
-use Rattle.std.proofs.Common.{◌≡◌, ℕ, ◌≤◌, min, Bool, true, false, ◌==◌, eq-eqb, List, [], ◌∷◌, ◌++◌, length, map, chars, refl, sym, ◌∙◌, ap, subst, Option, Some, None, cond, count_by, slice_index, arith}
+use Rattle.std.proofs.Common.{◌≡◌, ℕ, ◌≤◌, min, Bool, true, false, ◌==◌, ◌||◌, eq-eqb, List, [], ◌∷◌, ◌++◌, length, map, chars, refl, sym, ◌∙◌, ap, subst, Option, Some, None, cond, count_by, slice_index, arith}
 use Rattle.std.specs.Prelude.{bytes_eq}
 use Rattle.std.specs.Option.{option_or, option_map}
 use Rattle.std.specs.List.{common_prefix_len, list_any, AllByRecursion}
@@ -21,7 +21,7 @@ use Rattle.ann_reader.specs.Lines.{Line, lines_of}
 use Rattle.mark_base.specs.AnnIds.{kind_read}
 use Rattle.ann_reader.specs.Forms.{Form, BadForm, TextForm, EventForm, RelationForm, AttributeForm, ClassForm, NormalForm, NoteForm, form_of}
 use Rattle.ann_reader.specs.References.{references, has_no_letter, is_misspelt, is_own_misspelt}
-use Rattle.ann_reader.specs.LineFaults.{is_formless, is_twice, has_unknown_type, has_barred_type, has_unknown_role, has_unknown_value, has_bad_text, one_too_many, count_like, naming_rule, value_rule, line_rule, line_fault, first_line_fault}
+use Rattle.ann_reader.specs.LineFaults.{is_formless, is_nameless, is_twice, has_unknown_type, has_barred_type, has_unknown_role, has_unknown_value, has_bad_text, one_too_many, count_like, naming_rule, value_rule, line_rule, line_fault, first_line_fault}
 use Rattle.ann_reader.specs.AnnFaults.{as_space, differing, text_differs, text_fault, first_text_fault, layer_of, layer_fault, ann_fault}
 use Rattle.ann_reader.specs.AnnFiles.{IsAnn, Spells, is_line_of}
 use Rattle.ann_reader.proofs.AnswerLemmas.{text_faulty}
@@ -62,7 +62,7 @@ no_fault : (conf : Configuration) (layer : Annotations) (all : List Line) (befor
     → one_too_many before (slice_index line.bytes 0) ≡ None → line_fault conf all before line ≡ None
 no_fault conf layer all before line keeps once heads room =
     let form = form_of line.bytes in
-    sym (ruled conf all before line form refl (sym (or_from (is_formless form) (list_any has_no_letter (references form)) keeps.formed (all_lettered layer (references form) keeps.stand)))
+    sym (ruled conf all before line form refl (sym (or_from (is_formless form || is_nameless form) (list_any has_no_letter (references form)) keeps.formed (all_lettered layer (references form) keeps.stand)))
     (sym (or_from (is_own_misspelt form) (list_any is_misspelt (references form)) keeps.own (all_spelt layer (references form) keeps.stand))) (sym once) None
     (sym (ap (option_map Broken) (no_rule conf layer all before line form keeps heads room))))
 

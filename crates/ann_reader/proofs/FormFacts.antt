@@ -1,8 +1,8 @@
 -- What the form of a line says of its first field.
-use Rattle.std.proofs.Common.{◌≡◌, ℕ, ◌+◌, ◌<◌, ◌⊎◌, inl, inr, suc, Bool, true, false, not, ◌||◌, ◌&&◌, ◌==◌, List, [], ◌∷◌, refl, sym, ◌∙◌, ap, subst, Option, Some, None, cond, length, slice_index, take, drop, arith}
+use Rattle.std.proofs.Common.{◌≡◌, ℕ, ◌+◌, ◌-◌, ◌<◌, ◌⊎◌, inl, inr, zero, suc, Bool, true, false, not, ◌||◌, ◌&&◌, ◌==◌, List, [], ◌∷◌, refl, sym, ◌∙◌, ap, subst, Option, Some, None, cond, length, slice_index, take, drop, arith}
 use Rattle.std.specs.Prelude.{bytes_eq, codes, ⊤}
 use Rattle.std.specs.Option.{is_none, option_map_or, option_and_then, option_map}
-use Rattle.std.specs.List.{prefix_len}
+use Rattle.std.specs.List.{prefix_len, suffix_len}
 use Rattle.std.proofs.lemmas.Bool.{eqb-true, or_cases, or_from, false≢true}
 use Rattle.mark_base.specs.declared.ann_id.AnnId.{AnnId}
 use Rattle.mark_base.specs.declared.ann_id.Kind.{Kind}
@@ -12,12 +12,13 @@ use Rattle.annotation_conf.specs.Configurations.{Configuration}
 use Rattle.layer_model.specs.declared.mark.Mark.{Mark}
 use Rattle.layer_model.specs.Layers.{is_of_kind}
 use Rattle.mark_base.specs.ReadIds.{id_at, id_read}
-use Rattle.ann_reader.specs.Lines.{has_tab, first_field, behind_tab, without_return, without_end}
+use Rattle.ann_reader.specs.Lines.{has_tab, first_field, behind_tab, is_gap, without_gap, without_return, without_end}
 use Rattle.mark_base.specs.AnnIds.{kind_read, number_read}
 use Rattle.ann_reader.specs.Words.{words_of, behind_word}
-use Rattle.ann_reader.specs.Forms.{Pair, Form, BadForm, TextForm, EventForm, RelationForm, AttributeForm, ClassForm, NormalForm, NoteForm, has_byte, before_byte, behind_byte, pairs_read, frags_read, text_with, text_form, event_with, event_form, relation_with, relation_by, relation_form, attribute_by, attribute_form, class_by, class_form, normal_by, normal_form, note_by, note_form, two_form, of_two, three_form, of_three, begins_two, begins_three, form_of}
+use Rattle.ann_reader.specs.Forms.{Pair, Form, BadForm, TextForm, EventForm, RelationForm, AttributeForm, ClassForm, NormalForm, NoteForm, has_byte, before_byte, behind_byte, pairs_read, frags_read, text_with, text_form, event_with, event_form, relation_with, relation_by, relation_form, attribute_by, attribute_form, class_by, class_form, normal_by, normal_form, note_by, note_form, two_form, of_two, three_form, of_three, begins_two, begins_three, form_of, head_field}
 use Rattle.ann_reader.specs.FormShows.{NamesSome}
 use Rattle.ann_reader.specs.References.{own_id}
+use Rattle.ann_reader.specs.LineFaults.{is_formless}
 use Rattle.mark_base.specs.declared.places.TypeId.{TypeId}
 use Rattle.mark_base.specs.declared.arguments.Arg.{Arg}
 use Rattle.mark_base.specs.Names.{name_fault}
@@ -211,6 +212,68 @@ own_first line id e =
       | NormalForm own _ _ _ _ ↦ λ f q. ap id_read (sym f.0) ∙ q
       | NoteForm own _ _ _ ↦ λ f q. ap id_read (sym f.0) ∙ q
     ]) (form_fits line) e
+
+-- ---- the first field behind what a line of two fields drops at its end
+
+first_cons : (b : ℕ) (line : List ℕ) → (b == 9) ≡ false → first_field (b ∷ line) ≡ b ∷ first_field line
+first_cons b line h =
+    let n = prefix_len (λ x. not (x == 9)) line in
+    ap (λ s. take (cond (not s) (1 + n) 0) (b ∷ line)) h ∙ (let e : 1 + n ≡ suc n = omega arith in ap (λ k. take k (b ∷ line)) e)
+
+-- a TAB in the front of a line is one in the line, and the front has the line's first field
+front_field : (n : ℕ) (line : List ℕ) → has_tab (take n line) ≡ true → (has_tab line ≡ true) × (first_field (take n line) ≡ first_field line)
+front_field zero line h = absurd (false≢true h)
+front_field (suc n) [] h = absurd (false≢true h)
+front_field (suc n) (b ∷ line) h =
+    elim (b == 9) as (λ s. (b == 9) ≡ s → (s || has_tab (take n line)) ≡ true → ((s || has_tab line) ≡ true) × (first_field (b ∷ take n line) ≡ first_field (b ∷ line))) [
+      | true ↦ λ e _. (refl, nothing b (take n line) e ∙ sym (nothing b line e))
+      | false ↦ λ e t. (let more = front_field n line t in (more.0, first_cons b (take n line) e ∙ ap (λ xs. b ∷ xs) more.1 ∙ sym (first_cons b line e)))
+    ] refl h
+  where
+    nothing : (b : ℕ) (line : List ℕ) → (b == 9) ≡ true → first_field (b ∷ line) ≡ []
+    nothing b line e = ap (λ s. take (cond (not s) (1 + prefix_len (λ x. not (x == 9)) line) 0) (b ∷ line)) e
+
+return_field : (line : List ℕ) → has_tab (without_return line) ≡ true → (has_tab line ≡ true) × (first_field (without_return line) ≡ first_field line)
+return_field line h =
+    elim (slice_index line (length line - 1) == 13) as (λ s. has_tab (cond s (take (length line - 1) line) line) ≡ true → (has_tab line ≡ true) × (first_field (cond s (take (length line - 1) line) line) ≡ first_field line)) [
+      | true ↦ λ t. front_field (length line - 1) line t
+      | false ↦ λ t. (t, refl)
+    ] h
+
+end_field : (line : List ℕ) → has_tab (without_end line) ≡ true → first_field (without_end line) ≡ first_field line
+end_field line h =
+    let less = without_gap line in
+    let short = without_return less in
+    let a = front_field (length short - suffix_len is_gap short) short h in
+    let b = return_field less a.0 in
+    let c = front_field (length line - suffix_len is_gap line) line b.0 in
+    a.1 ∙ b.1 ∙ c.1
+
+-- where a line has a form, the first field that counts for the IDs of a file is the line's
+pub head_same : (line : List ℕ) → is_formless (form_of line) ≡ false → head_field line ≡ first_field line
+unfolding form_of
+head_same line formed =
+    let b = slice_index line 0 in
+    let P : Bool → Type 0 = λ s. is_formless (cond s (of_two b line) (cond (begins_three b) (of_three b line) BadForm)) ≡ false → cond s (first_field (without_end line)) (first_field line) ≡ first_field line in
+    let Q : Bool → Type 0 = λ t. has_tab (without_end line) ≡ t
+    → is_formless (cond (t && not (has_tab (behind_tab (without_end line)))) (two_form b (first_field line) (behind_tab (without_end line))) BadForm) ≡ false → first_field (without_end line) ≡ first_field line in
+    let two : Q (has_tab (without_end line)) = elim (has_tab (without_end line)) as Q [ true ↦ λ e _. end_field line e | false ↦ λ _ f. absurd (false≢true (sym f)) ] in
+    let cases : P (begins_two b) = elim (begins_two b) as P [ true ↦ λ f. two refl f | false ↦ λ _. refl ] in
+    cases formed
+
+formed_by : (form : Form) (id : AnnId) → own_id form ≡ Some id → is_formless form ≡ false
+formed_by BadForm id e = let lost : None ≡ Some id = e in cc
+formed_by (TextForm _ _ _ _) id e = refl
+formed_by (EventForm _ _ _ _) id e = refl
+formed_by (RelationForm _ _ _ _) id e = refl
+formed_by (AttributeForm _ _ _ _) id e = refl
+formed_by (ClassForm _ _) id e = refl
+formed_by (NormalForm _ _ _ _ _) id e = refl
+formed_by (NoteForm _ _ _ _) id e = refl
+
+-- an ID of its own counts for the IDs of a file
+pub own_head : (line : List ℕ) (id : AnnId) → own_id (form_of line) ≡ Some id → id_read (head_field line) ≡ Some id
+own_head line id e = ap id_read (head_same line (formed_by (form_of line) id e)) ∙ own_first line id e
 
 -- ---- the sort of what each form spells
 

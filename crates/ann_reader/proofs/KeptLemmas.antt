@@ -1,5 +1,5 @@
 -- The lines of a layer have no fault but perhaps in their counts.
-use Rattle.std.proofs.Common.{◌≡◌, ℕ, true, false, List, [], ◌∷◌, length, Some}
+use Rattle.std.proofs.Common.{◌≡◌, ℕ, true, false, ◌||◌, List, [], ◌∷◌, length, Some}
 use Rattle.std.specs.List.{list_any, AllByRecursion}
 use Rattle.std.proofs.lemmas.Bool.{or_from}
 use Rattle.annotation_conf.specs.Configurations.{Configuration}
@@ -10,7 +10,7 @@ use Rattle.ann_reader.specs.Lines.{Line}
 use Rattle.ann_reader.specs.Forms.{Form, BadForm, TextForm, EventForm, RelationForm, AttributeForm, ClassForm, NormalForm, NoteForm, form_of}
 use Rattle.ann_reader.specs.References.{references, has_no_letter, is_misspelt, is_own_misspelt}
 use Rattle.ann_reader.specs.Marks.{Said, said_of}
-use Rattle.ann_reader.specs.LineFaults.{is_formless, is_twice}
+use Rattle.ann_reader.specs.LineFaults.{is_formless, is_nameless, is_twice}
 use Rattle.ann_reader.specs.AnnFiles.{Spells}
 use Rattle.ann_reader.proofs.AnnLemmas.{AllClean}
 use Rattle.ann_reader.proofs.CleanLemmas.{Clean}
@@ -46,7 +46,7 @@ all_keep conf text layer (line ∷ lines) good coherent spelt covered =
 -- what a line without a fault keeps
 cleans_one : (conf : Configuration) (layer : Annotations) (all : List Line) (line : Line) (form : Form) → Keeps conf layer form → is_twice all line ≡ false → Clean conf all line form
 cleans_one conf layer all line form keeps once = record {
-  formed = or_from (is_formless form) (list_any has_no_letter (references form)) keeps.formed (all_lettered layer (references form) keeps.stand);
+  formed = or_from (is_formless form || is_nameless form) (list_any has_no_letter (references form)) keeps.formed (all_lettered layer (references form) keeps.stand);
   spelt = or_from (is_own_misspelt form) (list_any is_misspelt (references form)) keeps.own (all_spelt layer (references form) keeps.stand);
   once = once;
   types = keeps.types;

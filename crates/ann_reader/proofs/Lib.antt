@@ -22,6 +22,7 @@ pub mod RuleLemmas
 pub mod SaidLemmas
 pub mod SameLayer
 pub mod SmallLemmas
+pub mod SmallestLemmas
 pub mod StandLemmas
 pub mod StepLemmas
 pub mod TextCuts

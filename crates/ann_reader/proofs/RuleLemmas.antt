@@ -33,7 +33,7 @@ use Rattle.mark_base.specs.ReadIds.{id_read}
 use Rattle.ann_reader.specs.Forms.{Pair, Form, TextForm, EventForm, RelationForm, AttributeForm, ClassForm, NormalForm, NoteForm}
 use Rattle.ann_reader.specs.References.{references, is_own_misspelt}
 use Rattle.ann_reader.specs.Marks.{arg_by, arg_of, args_of, ends_of}
-use Rattle.ann_reader.specs.LineFaults.{is_formless, has_unknown_type, has_barred_type, has_unknown_role, has_unknown_value, has_bad_text}
+use Rattle.ann_reader.specs.LineFaults.{is_formless, is_nameless, has_unknown_type, has_barred_type, has_unknown_role, has_unknown_value, has_bad_text}
 use Rattle.ann_reader.specs.AnnFiles.{HasMark, is_span_word}
 use Rattle.ann_reader.proofs.CleanLemmas.{not_some}
 use Rattle.ann_reader.proofs.PartLemmas.{made, chained, IsSaid, span_parts, event_parts, relation_parts, attribute_parts, normal_parts, note_parts}
@@ -45,7 +45,7 @@ use Rattle.ann_reader.proofs.TextLemmas.{unbroken}
 
 -- what holds of a line that spells something of a layer
 pub record Keeps (conf : Configuration) (layer : Annotations) (form : Form) : Type 0 where
-  pub formed : is_formless form ≡ false
+  pub formed : (is_formless form || is_nameless form) ≡ false
   pub own : is_own_misspelt form ≡ false
   pub stand : AllStand layer (references form)
   pub types : has_unknown_type conf form ≡ false
@@ -176,10 +176,10 @@ note_keeps conf characters layer first kind target text good coherent h =
     let mark : Mark = marked.Note (record { kind = kind; target = parts.on; text = text }) in
     let rule = unbroken_at (λ id. bad_text) no_class layer h.id h.mark mark h.held parts.is good.texts in
     record {
-      formed = refl;
+      formed = not-true (is_some (name_fault kind)) parts.named;
       own = ap is_none h.headed;
       stand = note_stands conf layer first kind target text h coherent;
-      types = not-true (is_some (name_fault kind)) parts.named;
+      types = refl;
       for_use = refl;
       roles = refl;
       values = refl;

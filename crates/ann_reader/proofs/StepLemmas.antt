@@ -10,7 +10,8 @@ use Rattle.std.proofs.lemmas.Bool.{eqb-true, false≢true}
 use Rattle.std.proofs.lemmas.List.Sums.{fold_push}
 use Rattle.mark_base.specs.declared.ann_id.AnnId.{AnnId}
 use Rattle.layer_core.specs.Ids.{id_place}
-use Rattle.ann_reader.specs.Lines.{Line, first_field}
+use Rattle.ann_reader.specs.Lines.{Line}
+use Rattle.ann_reader.specs.Forms.{head_field}
 use Rattle.mark_base.specs.ReadIds.{id_read}
 use Rattle.ann_reader.specs.LineFaults.{counted_byte}
 use Rattle.ann_reader.specs.Known.{FindsHeads, is_headed_at}
@@ -92,11 +93,11 @@ first_now place lines line none headed =
     ap (option_map (λ (one : Line). one.number)) (find_push (is_headed_at place) lines line) ∙ cases none
 
 -- a line whose first field is no ID
-pub heads_none : (lines : List Line) (line : Line) (heads : BTreeMap ℕ ℕ) → FindsHeads lines heads → None ≡ id_read (first_field line.bytes) → FindsHeads (lines ++ line ∷ []) heads
+pub heads_none : (lines : List Line) (line : Line) (heads : BTreeMap ℕ ℕ) → FindsHeads lines heads → None ≡ id_read (head_field line.bytes) → FindsHeads (lines ++ line ∷ []) heads
 heads_none lines line heads h e place = h place ∙ sym (passed place lines line (ap (λ o. option_map_or (λ id. place == id_place id) o false) (sym e)))
 
 -- a line whose ID is there
-pub heads_again : (lines : List Line) (line : Line) (heads : BTreeMap ℕ ℕ) (id : AnnId) → FindsHeads lines heads → Some id ≡ id_read (first_field line.bytes)
+pub heads_again : (lines : List Line) (line : Line) (heads : BTreeMap ℕ ℕ) (id : AnnId) → FindsHeads lines heads → Some id ≡ id_read (head_field line.bytes)
     → is_some (get nat_cmp heads (id_place id)) ≡ true → FindsHeads (lines ++ line ∷ []) heads
 heads_again lines line heads id h e there place =
     let headed : is_headed_at place line ≡ (place == id_place id) = ap (λ o. option_map_or (λ one. place == id_place one) o false) (sym e) in
@@ -114,7 +115,7 @@ heads_again lines line heads id h e there place =
     ] in cases refl
 
 -- a line whose ID is new
-pub heads_new : (lines : List Line) (line : Line) (heads more : BTreeMap ℕ ℕ) (id : AnnId) → FindsHeads lines heads → Some id ≡ id_read (first_field line.bytes)
+pub heads_new : (lines : List Line) (line : Line) (heads more : BTreeMap ℕ ℕ) (id : AnnId) → FindsHeads lines heads → Some id ≡ id_read (head_field line.bytes)
     → is_some (get nat_cmp heads (id_place id)) ≡ false → Updates nat_cmp heads more (id_place id) (Some line.number) → FindsHeads (lines ++ line ∷ []) more
 heads_new lines line heads more id h e new u place =
     let headed : is_headed_at place line ≡ (place == id_place id) = ap (λ o. option_map_or (λ one. place == id_place one) o false) (sym e) in

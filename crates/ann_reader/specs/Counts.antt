@@ -1,4 +1,4 @@
--- How many lines of each sort were passed.
+-- How many lines of each sort were passed (private calls only).
 use Rattle.std.specs.Prelude.{◌≡◌, ℕ, ◌==◌, List, slice_index, count_by, unwrap_or}
 use Rattle.std.specs.BTreeMap.{BTreeMap, get}
 use Rattle.std.specs.Ordering.{nat_cmp}

@@ -1,4 +1,4 @@
--- What the values of a reader show of faults.
+-- What the values of a reader show of faults (private calls only).
 use Rattle.ann_reader.specs.declared.reader.Fault.{Fault as FaultValue}
 use Rattle.ann_reader.specs.LineFaults.{Fault}
 

@@ -1,4 +1,4 @@
--- What the values of a reader show of the form of a line.
+-- What the values of a reader show of the form of a line (private calls only).
 use Rattle.std.specs.Prelude.{ℕ, ◌<◌, List, length, map, option_map, ⊤}
 use Rattle.ann_reader.specs.declared.form.Pair.{Pair as PairValue}
 use Rattle.ann_reader.specs.declared.form.Form.{Form as FormValue}

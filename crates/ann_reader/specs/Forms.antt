@@ -170,3 +170,9 @@ form_by b line = if begins_two b then of_two b line else if begins_three b then 
 -- the form of a line
 unfoldable pub form_of : List ℕ → Form
 form_of line = form_by (slice_index line 0) line
+
+-- ---- the first field of a line, with a form or without one
+
+-- the first field as it counts for the IDs of a file: of a line that begins with E, R, A, M or `*` the spaces, TABs and the carriage return at the end are dropped before
+abbrev pub head_field : List ℕ → List ℕ
+head_field line = if begins_two (slice_index line 0) then first_field (without_end line) else first_field line

@@ -1,15 +1,16 @@
--- A map from IDs to the first line of each.
+-- A map from IDs to the first line of each (private calls only).
 use Rattle.std.specs.Prelude.{◌≡◌, ℕ, ◌==◌, Bool, false, List, option_map, find}
 use Rattle.std.specs.Option.{option_map_or}
 use Rattle.std.specs.BTreeMap.{BTreeMap, get}
 use Rattle.std.specs.Ordering.{nat_cmp}
 use Rattle.layer_core.specs.Ids.{id_place}
-use Rattle.ann_reader.specs.Lines.{Line, first_field}
+use Rattle.ann_reader.specs.Lines.{Line}
+use Rattle.ann_reader.specs.Forms.{head_field}
 use Rattle.mark_base.specs.ReadIds.{id_read}
 
 -- the first field of the line is the ID of this place
 abbrev pub is_headed_at : ℕ → Line → Bool
-is_headed_at place line = option_map_or (λ id. place == id_place id) (id_read (first_field line.bytes)) false
+is_headed_at place line = option_map_or (λ id. place == id_place id) (id_read (head_field line.bytes)) false
 
 -- a map from the place of each ID to the number of its first line
 abbrev pub FindsHeads : List Line → BTreeMap ℕ ℕ → Type 0

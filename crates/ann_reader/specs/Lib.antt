@@ -13,4 +13,5 @@ pub mod NamesRead
 pub mod ReadFaults
 pub mod References
 pub mod Roles
+pub mod Smallest
 pub mod Words

@@ -16,11 +16,11 @@ use Rattle.layer_core.specs.Walk.{first_of}
 use Rattle.ann_reader.specs.declared.ann_fault.AnnWhat.{AnnWhat}
 use Rattle.ann_reader.specs.declared.ann_fault.AnnWhat.TheVariants.{BadLine, BadId, IdTwice, Broken}
 use Rattle.ann_reader.specs.Roles.{role_read}
-use Rattle.ann_reader.specs.Lines.{Line, first_field}
+use Rattle.ann_reader.specs.Lines.{Line}
 use Rattle.ann_reader.specs.NamesRead.{type_read, event_read, relation_read, attribute_read, value_read}
 use Rattle.mark_base.specs.ReadIds.{id_read}
 use Rattle.mark_base.specs.AnnIds.{kind_read}
-use Rattle.ann_reader.specs.Forms.{Form, BadForm, TextForm, EventForm, RelationForm, AttributeForm, ClassForm, NormalForm, NoteForm, form_of}
+use Rattle.ann_reader.specs.Forms.{Form, BadForm, TextForm, EventForm, RelationForm, AttributeForm, ClassForm, NormalForm, NoteForm, form_of, head_field}
 use Rattle.ann_reader.specs.References.{Reference, references, own_id, is_own_misspelt, has_no_letter, is_misspelt, may_stand}
 use Rattle.ann_reader.specs.Marks.{ends_of}
 
@@ -31,9 +31,14 @@ abbrev pub is_formless : Form → Bool
 is_formless BadForm = true
 is_formless _ = false
 
--- no form, or a place of an ID that begins with none of the letters
+-- a note whose type is no name, which no table could have
+abbrev pub is_nameless : Form → Bool
+is_nameless (NoteForm _ kind _ _) = is_some (name_fault kind)
+is_nameless _ = false
+
+-- no form, a note's type that is no name, or a place of an ID that begins with none of the letters
 abbrev pub is_bad_line : Form → Bool
-is_bad_line form = is_formless form || list_any has_no_letter (references form)
+is_bad_line form = is_formless form || is_nameless form || list_any has_no_letter (references form)
 
 -- its own ID is misspelt, or one that it names
 abbrev pub has_bad_id : Form → Bool
@@ -41,7 +46,7 @@ has_bad_id form = is_own_misspelt form || list_any is_misspelt (references form)
 
 -- the first field of the line is this ID
 abbrev pub is_headed : AnnId → Line → Bool
-is_headed id line = option_map_or (is_id id) (id_read (first_field line.bytes)) false
+is_headed id line = option_map_or (is_id id) (id_read (head_field line.bytes)) false
 
 -- the first line whose first field is this ID
 abbrev pub headed_by : AnnId → List Line → Option Line
@@ -54,7 +59,7 @@ is_twice all line =
 
 -- ---- rules
 
--- the type is not in the table that the line needs: of all types for a span, of event types, of relation types, of attributes; a note's type is any name
+-- the type is not in the table that the line needs: of all types for a span, of event types, of relation types, of attributes
 abbrev pub has_unknown_type : Configuration → Form → Bool
 has_unknown_type conf BadForm = false
 has_unknown_type conf (TextForm _ kind _ _) = is_none (type_read conf kind)
@@ -63,7 +68,7 @@ has_unknown_type conf (RelationForm _ kind _ _) = is_none (relation_read conf ki
 has_unknown_type conf (AttributeForm _ kind _ _) = is_none (attribute_read conf kind)
 has_unknown_type conf (ClassForm kind _) = is_none (relation_read conf kind)
 has_unknown_type conf (NormalForm _ _ _ _ _) = false
-has_unknown_type conf (NoteForm _ kind _ _) = is_some (name_fault kind)
+has_unknown_type conf (NoteForm _ _ _ _) = false
 
 -- the type only orders others, or is an equivalence in the place of a relation, or the other way round
 abbrev pub has_barred_type : Configuration → Form → Bool

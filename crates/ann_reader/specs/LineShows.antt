@@ -1,4 +1,4 @@
--- What the values of a reader show of lines and forms.
+-- What the values of a reader show of lines and forms (private calls only).
 use Rattle.ann_reader.specs.declared.line.Line.{Line as LineValue}
 use Rattle.ann_reader.specs.Lines.{Line}
 

@@ -431,7 +431,7 @@ fn of_three<'a>(alloc: Global, byte: u8, line: &'a str) -> Result<Form<'a>, Memo
 }
 
 /// Whether a line of two fields begins with this byte.
-fn begins_two(byte: u8) -> bool
+pub(crate) fn begins_two(byte: u8) -> bool
     ensures { result ≡ begins_two byte }
 {
     byte == b'E' || byte == b'R' || byte == b'A' || byte == b'M' || byte == b'*'

@@ -1,12 +1,14 @@
 //! The lines of a file, with the line of each ID.
 ghost use Rattle.std.specs.Prelude.{◌≡◌, map, IfOk, option_map};
-ghost use Rattle.ann_reader.specs.Lines.{first_field};
+ghost use Rattle.ann_reader.specs.Forms.{head_field};
 ghost use Rattle.mark_base.specs.ReadIds.{id_read};
 ghost use Rattle.ann_reader.specs.LineFaults.{headed_by};
 ghost use Rattle.ann_reader.specs.LineShows.{seen_line};
 ghost use Rattle.ann_reader.specs.Known.{FindsHeads};
 
-use crate::line::{Line, before};
+use crate::form::begins_two;
+use crate::line::{Line, before, without_end};
+use crate::word::first_byte;
 use layer_model::rank;
 use mark_base::{AnnId, Memory};
 use std::alloc::Global;
@@ -33,11 +35,23 @@ impl<'a> Model for KnownLines<'a> {
     ghost invariant = { λ known. FindsHeads (map seen_line known.lines.items) known.heads };
 }
 
+/// The first field of a line, as it counts for the IDs of a file: what a line of two fields drops at its
+/// end is no part of it.
+fn head_field(line: &str) -> &str
+    ensures { result.now ≡ head_field line.now }
+{
+    if begins_two(first_byte(line.as_bytes())) {
+        before(without_end(line), b'\t')
+    } else {
+        before(line, b'\t')
+    }
+}
+
 /// The ID that the first field of a line spells.
 fn head_of(line: &Line) -> Option<AnnId>
-    ensures { result ≡ id_read (first_field line.now.text.now) }
+    ensures { result ≡ id_read (head_field line.now.text.now) }
 {
-    AnnId::read(before(line.text, b'\t').as_bytes())
+    AnnId::read(head_field(line.text).as_bytes())
 }
 
 /// The number of the first line of each ID.

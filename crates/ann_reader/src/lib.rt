@@ -15,14 +15,14 @@ mod marks;
 mod reader;
 mod references;
 mod roles;
-#[cfg(test)]
-mod tests;
 mod texts;
 mod word;
 mod worked_rows;
 
 pub use crate::ann_fault::{AnnFault, AnnWhat};
-pub use crate::laws::{at_most_one_layer, files_of_a_layer, files_without_fault, layers_of_lines};
+pub use crate::laws::{
+    at_most_one_layer, classes_are_smallest, files_of_a_layer, files_without_fault, layers_of_lines,
+};
 pub use crate::letters::Letters;
 pub use crate::reader::read_ann;
 pub use crate::roles::role_read;

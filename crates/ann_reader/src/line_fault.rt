@@ -11,7 +11,7 @@ ghost use Rattle.std.specs.Prelude.{false};
 ghost use Rattle.ann_reader.specs.Roles.{role_read};
 ghost use Rattle.ann_reader.specs.References.{references};
 ghost use Rattle.ann_reader.specs.Forms.{form_of};
-ghost use Rattle.ann_reader.specs.LineFaults.{is_formless, is_twice, has_unknown_type, has_barred_type, first_absent, first_unfit, has_unknown_role, has_unknown_value, has_bad_text, one_too_many, naming_rule, value_rule, line_rule, is_bad_line, has_bad_id, line_fault};
+ghost use Rattle.ann_reader.specs.LineFaults.{is_formless, is_nameless, is_twice, has_unknown_type, has_barred_type, first_absent, first_unfit, has_unknown_role, has_unknown_value, has_bad_text, one_too_many, naming_rule, value_rule, line_rule, is_bad_line, has_bad_id, line_fault};
 ghost use Rattle.ann_reader.specs.LineShows.{seen_line};
 ghost use Rattle.ann_reader.specs.FormShows.{seen_form, seen_pair, seen_reference, seen_value};
 
@@ -46,13 +46,12 @@ fn has_unknown_type(alloc: Global, conf: &Conf, form: &Form) -> Result<bool, Mem
     ensures { IfOk result (λ unknown. unknown ≡ has_unknown_type conf.now (seen_form form.now)) }
 {
     match form {
-        Form::Bad | Form::Normal { .. } => Ok(false),
+        Form::Bad | Form::Normal { .. } | Form::Note { .. } => Ok(false),
         Form::Text { kind, .. } => Ok(type_read(alloc, conf, kind)?.is_none()),
         Form::Event { kind, .. } => Ok(event_read(alloc, conf, kind)?.is_none()),
         Form::Relation { kind, .. } => Ok(relation_read(alloc, conf, kind)?.is_none()),
         Form::Attribute { kind, .. } => Ok(attribute_read(alloc, conf, kind)?.is_none()),
         Form::Class { kind, .. } => Ok(relation_read(alloc, conf, kind)?.is_none()),
-        Form::Note { kind, .. } => Ok(is_no_name(kind)),
     }
 }
 
@@ -274,12 +273,23 @@ fn is_formless(form: &Form) -> bool
     matches!(form, Form::Bad)
 }
 
-/// Whether a line has no form, or a place of an ID in it begins with none of the letters.
+/// Whether a line is a note whose type is no name.
+fn is_nameless(form: &Form) -> bool
+    ensures { result ≡ is_nameless (seen_form form.now) }
+{
+    match form {
+        Form::Note { kind, .. } => is_no_name(kind),
+        _ => false,
+    }
+}
+
+/// Whether a line has no form, a note's type that is no name, or a place of an ID that begins with none of
+/// the letters.
 fn is_bad_line(form: &Form, named: &[Reference]) -> bool
     requires { map seen_reference named.now ≡ references (seen_form form.now) }
     ensures { result ≡ is_bad_line (seen_form form.now) }
 {
-    is_formless(form) || some_without_letter(named)
+    is_formless(form) || is_nameless(form) || some_without_letter(named)
 }
 
 /// Whether an ID of a line is misspelt.

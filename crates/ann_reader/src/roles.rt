@@ -43,13 +43,12 @@ fn role_before(conf: &Conf, event: TypeId, word: &[u8], digits: usize) -> Option
 fn role_before_number(conf: &Conf, event: TypeId, word: &[u8], counts: &[usize]) -> Option<u16>
     ensures { result ≡ role_before_number conf.now event.n word.now counts.now }
 {
-    match counts {
-        [] => None,
-        [digits, more @ ..] => match role_before(conf, event, word, *digits) {
-            Some(role) => Some(role),
-            None => role_before_number(conf, event, word, more),
-        },
+    for digits in counts {
+        if let Some(role) = role_before(conf, event, word, *digits) {
+            return Some(role);
+        }
     }
+    None
 }
 
 /// The role of an event type that a word of an E line names: the role of that name, or else the one of

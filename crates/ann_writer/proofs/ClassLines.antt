@@ -19,10 +19,12 @@ use Rattle.layer_model.specs.Classes.{rank, has_rank, is_among, with_id, ascendi
 use Rattle.layer_model.proofs.ClassOrder.{insert_class-last}
 use Rattle.layer_core.specs.Rules.{where_so, unknown_class}
 use Rattle.layer_model.specs.declared.rule.Rule.{Rule}
-use Rattle.ann_reader.specs.Lines.{is_blank, first_field}
+use Rattle.ann_reader.specs.Lines.{is_blank}
 use Rattle.mark_base.specs.ReadIds.{id_read}
 use Rattle.ann_reader.specs.Words.{all_of}
-use Rattle.ann_reader.specs.Forms.{Form, ClassForm, form_of}
+use Rattle.ann_reader.specs.Forms.{Form, ClassForm, form_of, head_field}
+use Rattle.ann_reader.specs.LineFaults.{is_formless}
+use Rattle.ann_reader.proofs.FormFacts.{head_same}
 use Rattle.ann_reader.specs.References.{own_id}
 use Rattle.ann_reader.specs.Marks.{Said, said_by, said_of}
 use Rattle.ann_reader.specs.AnnFiles.{Spells, joined_too, classes_of}
@@ -44,7 +46,7 @@ pub record IsClassLine (conf : Configuration) (text : List ℕ) (layer : Annotat
   pub unblank : is_blank line ≡ false
   pub spells : Spells conf text layer (form_of line)
   pub own : own_id (form_of line) ≡ None
-  pub head : id_read (first_field line) ≡ None
+  pub head : id_read (head_field line) ≡ None
   pub said : said_of conf (form_of line) ≡ Some (said_class class)
 
 members_plain : (ids : List AnnId) → AllByRecursion IsPlain (map id_word ids)
@@ -77,7 +79,7 @@ class_by conf text layer h kind (first ∷ members) known some =
       unblank = refl;
       spells = subst (Spells conf text layer) (sym read) (ap is_some said);
       own = ap own_id read;
-      head = refl;
+      head = ap id_read (head_same line (ap is_formless read));
       said = ap (said_of conf) read ∙ said;
     }
 

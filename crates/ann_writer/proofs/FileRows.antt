@@ -22,8 +22,8 @@ use Rattle.mark_base.specs.ReadIds.{id_at, id_read}
 use Rattle.layer_core.specs.PairRules.{is_id}
 use Rattle.layer_core.proofs.PlaceLemmas.{along, is_less, left, right}
 use Rattle.ann_reader.specs.Lines as file
-use Rattle.ann_reader.specs.Lines.{Line, is_blank, first_field, lines_from}
-use Rattle.ann_reader.specs.Forms.{form_of}
+use Rattle.ann_reader.specs.Lines.{Line, is_blank, lines_from}
+use Rattle.ann_reader.specs.Forms.{form_of, head_field}
 use Rattle.ann_reader.specs.References.{own_id}
 use Rattle.ann_reader.specs.Marks.{Said, said_of}
 use Rattle.ann_reader.specs.LineFaults.{is_headed, headed_by, is_twice}
@@ -40,7 +40,7 @@ pub record IsRow (conf : Configuration) (text : List ℕ) (layer : Annotations) 
   pub unblank : is_blank row.line ≡ false
   pub spells : Spells conf text layer (form_of row.line)
   pub own : own_id (form_of row.line) ≡ row.own
-  pub head : id_read (first_field row.line) ≡ row.own
+  pub head : id_read (head_field row.line) ≡ row.own
   pub said : said_of conf (form_of row.line) ≡ row.said
 
 abbrev pub AreRows : Configuration → List ℕ → Annotations → List Row → Type 0
@@ -103,7 +103,7 @@ IsBelow high row = MatchOption row.own (Unit {0}) (λ id. rank id < high)
 
 -- the IDs of lines before
 abbrev IsLineBelow : ℕ → Line → Type 0
-IsLineBelow high line = MatchOption (id_read (first_field line.bytes)) (Unit {0}) (λ id. rank id < high)
+IsLineBelow high line = MatchOption (id_read (head_field line.bytes)) (Unit {0}) (λ id. rank id < high)
 
 other_by : (id : AnnId) (o : Option AnnId) → MatchOption o (Unit {0}) (λ other. rank other < rank id) → option_map_or (is_id id) o false ≡ false
 other_by id None below = refl
@@ -111,7 +111,7 @@ other_by id (Some other) below = ne_eqb (rank id) (rank other) (λ e. omega arit
 
 none_headed : (id : AnnId) (lines : List Line) → AllByRecursion (IsLineBelow (rank id)) lines → headed_by id lines ≡ None
 none_headed id [] all = refl
-none_headed id (line ∷ lines) all = ap (λ b. cond b (Some line) (headed_by id lines)) (other_by id (id_read (first_field line.bytes)) all.0) ∙ none_headed id lines all.1
+none_headed id (line ∷ lines) all = ap (λ b. cond b (Some line) (headed_by id lines)) (other_by id (id_read (head_field line.bytes)) all.0) ∙ none_headed id lines all.1
 
 raised : (low high : ℕ) (o : Option AnnId) → low ≤ high → MatchOption o (Unit {0}) (λ id. rank id < low) → MatchOption o (Unit {0}) (λ id. rank id < high)
 raised low high None less below = tt
@@ -119,14 +119,14 @@ raised low high (Some id) less below = omega arith
 
 all_raised : (low high : ℕ) (lines : List Line) → low ≤ high → AllByRecursion (IsLineBelow low) lines → AllByRecursion (IsLineBelow high) lines
 all_raised low high [] less all = tt
-all_raised low high (line ∷ lines) less all = (raised low high (id_read (first_field line.bytes)) less all.0, all_raised low high lines less all.1)
+all_raised low high (line ∷ lines) less all = (raised low high (id_read (head_field line.bytes)) less all.0, all_raised low high lines less all.1)
 
 pushed : (P : Line → Type 0) (lines : List Line) (line : Line) → AllByRecursion P lines → P line → AllByRecursion P (lines ++ line ∷ [])
 pushed P [] line all h = (h, tt)
 pushed P (other ∷ lines) line all h = (all.0, pushed P lines line all.1 h)
 
 -- a line is the first that has its ID
-first_here : (front rest : List Line) (line : Line) (id : AnnId) → AllByRecursion (IsLineBelow (rank id)) front → id_read (first_field line.bytes) ≡ Some id → headed_by id (front ++ line ∷ rest) ≡ Some line
+first_here : (front rest : List Line) (line : Line) (id : AnnId) → AllByRecursion (IsLineBelow (rank id)) front → id_read (head_field line.bytes) ≡ Some id → headed_by id (front ++ line ∷ rest) ≡ Some line
 first_here front rest line id all head =
     find-append (is_headed id) front (line ∷ rest) ∙ ap (λ o. option_or o (headed_by id (line ∷ rest))) (none_headed id front all)
     ∙ ap (λ b. cond b (Some line) (headed_by id rest)) (ap (λ o. option_map_or (is_id id) o false) head ∙ eq-eqb (rank id) (rank id) refl)

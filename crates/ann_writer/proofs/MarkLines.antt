@@ -23,7 +23,7 @@ use Rattle.annotation_conf.specs.ConfText.{type_name_at, relation_name_at}
 use Rattle.annotation_conf.specs.Lookups.{values_of}
 use Rattle.annotation_conf.specs.Sound.{IsSound}
 use Rattle.annotation_conf.proofs.Written.{IsWord}
-use Rattle.annotation_conf.proofs.WrittenLists.{before_at, is_other, none-append, none_less}
+use Rattle.annotation_conf.proofs.WrittenLists.{is_other, none-append, none_less}
 use Rattle.layer_model.specs.declared.mark.Mark.{Mark}
 use Rattle.layer_model.specs.declared.mark.Mark.TheVariants as marked
 use Rattle.layer_model.specs.declared.span.Span.{Span}
@@ -48,8 +48,8 @@ use Rattle.layer_core.specs.Fields.{Declared}
 use Rattle.layer_core.specs.Targets.{is_event_type}
 use Rattle.layer_core.specs.WellFormed.{IsWellFormed, Never, no_class}
 use Rattle.layer_core.proofs.PlaceLemmas.{at_entry}
-use Rattle.ann_reader.specs.Lines.{is_blank, is_blank_byte, first_field}
-use Rattle.ann_reader.specs.Forms.{Form, TextForm, EventForm, RelationForm, AttributeForm, NormalForm, NoteForm, form_of}
+use Rattle.ann_reader.specs.Lines.{is_blank, is_blank_byte}
+use Rattle.ann_reader.specs.Forms.{Form, TextForm, EventForm, RelationForm, AttributeForm, NormalForm, NoteForm, form_of, head_field}
 use Rattle.ann_reader.specs.Forms as forms
 use Rattle.ann_reader.specs.References.{own_word, own_id}
 use Rattle.ann_reader.specs.NamesRead.{value_read}
@@ -58,8 +58,9 @@ use Rattle.ann_reader.specs.AnnFiles.{HasMark, Spells}
 use Rattle.ann_writer.specs.Words.{id_word, frags_word, pair_word, argument_words, words_behind}
 use Rattle.ann_writer.specs.AnnOf.{relation_role_at, attribute_name_at, value_name_at, value_words}
 use Rattle.ann_writer.specs.Writable.{IsOfProgram}
+use Rattle.ann_reader.proofs.FormFacts.{own_head}
 use Rattle.ann_writer.proofs.WritableLemmas.{writable}
-use Rattle.ann_writer.proofs.PlainWords.{IsPlain, parts, no_tab, no_feed, name_plain, name_colon, spelling_plain, bytes_free, past_parts, decimal_plain}
+use Rattle.ann_writer.proofs.PlainWords.{IsPlain, parts, no_feed, name_plain, name_colon, spelling_plain, bytes_free, past_parts, decimal_plain}
 use Rattle.mark_base.proofs.IdLemmas.{spelling_read}
 use Rattle.ann_writer.proofs.FragWords.{IsShort, id_read_back, ends, ends_plain, spaced}
 use Rattle.ann_writer.proofs.NameFacts.{IsTypeName, type_facts, event_known, event_facts, IsRelationName, relation_facts, IsAttributeName, attribute_facts, IsValueName, value_facts}
@@ -74,7 +75,7 @@ pub record IsMarkLine (conf : Configuration) (text : List ℕ) (layer : Annotati
   pub unblank : is_blank line ≡ false
   pub spells : Spells conf text layer (form_of line)
   pub own : own_id (form_of line) ≡ Some (id_at kind n)
-  pub head : id_read (first_field line) ≡ Some (id_at kind n)
+  pub head : id_read (head_field line) ≡ Some (id_at kind n)
   pub unsaid : said_of conf (form_of line) ≡ None
 
 -- what the line rests on
@@ -93,10 +94,6 @@ letter_seen letter.Note = refl
 
 unblank_by : (kind : Kind) (n : ℕ) (rest : List ℕ) → is_blank (spelling_of kind n ++ rest) ≡ false
 unblank_by kind n rest = ap (λ b. b && list_all is_blank_byte (decimal n ++ rest)) (letter_seen kind)
-
-headed : (kind : Kind) (n : ℕ) (rest : List ℕ) → n ≤ 999999999 → id_read (first_field (spelling_of kind n ++ 9 ∷ rest)) ≡ Some (id_at kind n)
-headed kind n rest small =
-    ap id_read (before_at (λ c. c == 9) (spelling_of kind n) 9 rest (no_tab (spelling_of kind n) (spelling_plain kind n small).free) refl) ∙ spelling_read kind n small
 
 min_is : (n : ℕ) → n ≤ 999999999 → min n 999999999 ≡ n
 min_is n h = omega arith
@@ -135,7 +132,7 @@ words_line conf text layer kind n line rest form small is unbroken read spells o
   unblank = ap is_blank is ∙ unblank_by kind n (9 ∷ rest);
   spells = subst (Spells conf text layer) (sym read) spells;
   own = ap own_id read ∙ ap (option_and_then id_read) own ∙ spelling_read kind n small;
-  head = ap (λ l. id_read (first_field l)) is ∙ headed kind n rest small;
+  head = own_head line (id_at kind n) (ap own_id read ∙ ap (option_and_then id_read) own ∙ spelling_read kind n small);
   unsaid = ap (said_of conf) read ∙ unsaid;
 }
 

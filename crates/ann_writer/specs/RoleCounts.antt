@@ -1,4 +1,4 @@
--- How many arguments of each role stand before an argument.
+-- How many arguments of each role stand before an argument (private calls only).
 use Rattle.std.specs.Prelude.{◌≡◌, ℕ, ◌<◌, List, length, slice_index}
 use Rattle.mark_base.specs.declared.arguments.Arg.{Arg}
 use Rattle.layer_core.specs.Rules.{filled}

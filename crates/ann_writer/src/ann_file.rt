@@ -1,8 +1,8 @@
 //! The file of a layer.
-ghost use Rattle.std.specs.Prelude.{◌≡◌, ◌++◌, ◌≤◌, length, string_bytes, IfOk, IfErr, OnOk, OnErr};
+ghost use Rattle.std.specs.Prelude.{◌≡◌, ◌++◌, ◌≤◌, length, string_bytes, IfOk, IsErrOf, OnOk, OnErr};
 ghost use Rattle.std.specs.List.{flat_map};
 ghost use Rattle.std.specs.Io.KnownBytes.{Appends};
-ghost use Rattle.mark_base.specs.Streams.{AppendsFront, Rose};
+ghost use Rattle.mark_base.specs.Streams.{AppendsFront, TellsFault};
 ghost use Rattle.mark_base.specs.declared.ann_id.Kind.TheVariants as letter;
 ghost use Rattle.layer_core.specs.WellFormed.{IsWellFormed};
 ghost use Rattle.ann_reader.specs.AnnFiles.{IsAnn};
@@ -93,7 +93,7 @@ pub fn write_ann<K: Sink>(
     ensures whole { OnOk result (Appends (K.held sink.old) (K.held sink.new) (ann_of conf.now doc.now layer.now)) }
     ensures front { OnErr result (AppendsFront (K.held sink.old) (K.held sink.new) (ann_of conf.now doc.now layer.now)) }
     ensures later { K.write_faults sink.old ≤ K.write_faults sink.new }
-    ensures fault { IfErr result (λ why. why ≡ WriteAnn.WriteFault → Rose (K.write_faults sink.old) (K.write_faults sink.new)) }
+    ensures fault { TellsFault (IsErrOf result WriteAnn.WriteFault) (K.write_faults sink.old) (K.write_faults sink.new) }
     ensures kept { K.kept_by_write sink.new ≡ K.kept_by_write sink.old }
 {
     let Ok(bytes) = ann_bytes(alloc, layer, doc, conf) else {

@@ -16,8 +16,6 @@ mod arguments;
 mod laws;
 mod lines;
 mod marks;
-#[cfg(test)]
-mod tests;
 mod words;
 mod write_fault;
 
