@@ -28,8 +28,6 @@ mod person;
 mod piece_fields;
 mod reading;
 mod shared_fields;
-#[cfg(test)]
-mod tests;
 mod worked_rows;
 mod write_fields;
 mod write_shapes;

@@ -19,8 +19,6 @@ mod doc_line;
 mod laws;
 mod roster;
 mod roster_fault;
-#[cfg(test)]
-mod tests;
 mod worked_steps;
 
 pub use crate::book_refusal::{BookRefusal, Policy};

@@ -4,7 +4,7 @@ use Rattle.std.specs.Prelude.{bytes_eq, ◌&&◌}
 use Rattle.std.specs.List.{All}
 use Rattle.std.proofs.lemmas.Bool.Decides.{nat_tests}
 use Rattle.std.proofs.lemmas.List.{drop_at}
-use Rattle.std.proofs.lemmas.List.Elements.{All-head, All-tail}
+use Rattle.std.proofs.lemmas.List.Elements.{All-cons, All-head, All-nil, All-tail}
 use Rattle.std.proofs.lemmas.Slice.Eq.{bytes_eq-Decides}
 use Rattle.project_journal.specs.Creation.{IsNoneOrWhole}
 use Rattle.project_journal.specs.Disk.{Torn, Reaches, NoMore, OnlyEmpty, Durable}
@@ -19,6 +19,10 @@ use Rattle.project_journal.proofs.Opens.{front_two, reads_front, reads_opened}
 pub are_entries : (es : List (List ℕ)) → All IsEntry es → AreEntries es
 are_entries [] all = tt
 are_entries (e ∷ es) all = (All-head IsEntry e es all, are_entries es (All-tail IsEntry e es all))
+
+pub all_entries : (es : List (List ℕ)) → AreEntries es → All IsEntry es
+all_entries [] are = All-nil IsEntry
+all_entries (e ∷ es) are = All-cons IsEntry e es are.0 (all_entries es are.1)
 
 abbrev pub zeros : List ℕ
 zeros = 0 ∷ 0 ∷ 0 ∷ 0 ∷ 0 ∷ 0 ∷ 0 ∷ 0 ∷ []

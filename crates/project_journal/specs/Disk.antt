@@ -44,10 +44,12 @@ OnlyEmpty images = (image : List ℕ) → images image → length image ≡ 0
 abbrev pub Changes : (List ℕ → List ℕ → Type 0) → Option (List ℕ) → Option (List ℕ) → Type 0
 Changes step old new = (before after : List ℕ) → old ≡ Some before → new ≡ Some after → step before after
 
--- A fault is answered only where the count of faults rose, and a faultless device answers none and stays so.
+-- A fault is answered only where the count of faults rose, and a success only where it stands as before, so that no call
+-- that failed was made again. A faultless device answers no fault and stays so.
 pub record Counts (before now : ℕ) (faultless stays : Type 0) (ok : Bool) : Type 0 where
   pub later : before ≤ now
   pub failed : (ok ≡ true → ⊥) → Rose before now
+  pub still : ok ≡ true → now ≡ before
   pub none : faultless → stays × (ok ≡ true) × (now ≡ before)
 
 -- a call takes up at most one of the calls that were reserved, and none of the length

@@ -30,6 +30,7 @@ fn claim<D: Disk>(disk: &mut D, calls: u32, end: u64) -> Result<(), JournalFault
     ensures any_moment { LeavesOnly D.moment D.left_since disk.old disk.new (D.images disk.old) }
     ensures later { D.faults disk.old ≤ D.faults disk.new }
     ensures cause { IsErrOf result TheVariants.Disk → Rose (D.faults disk.old) (D.faults disk.new) }
+    ensures still { OnOk result (D.faults disk.new ≡ D.faults disk.old) }
     ensures faultless { D.faultless disk.old → D.faultless disk.new × (D.faults disk.new ≡ D.faults disk.old) × (IsErrOf result TheVariants.Disk → ⊥) }
 {
     disk.reserve(calls, end)?;
@@ -84,6 +85,7 @@ pub fn lay_out_empty<D: Disk>(disk: &mut D) -> Result<(), JournalFault>
     ensures memory { IsErrOf result TheVariants.Memory → (D.holds disk.new ≡ D.holds disk.old) × NoMore (D.images disk.old) (D.images disk.new) }
     ensures later { D.faults disk.old ≤ D.faults disk.new }
     ensures cause { IsErrOf result TheVariants.Disk → Rose (D.faults disk.old) (D.faults disk.new) }
+    ensures still { OnOk result (D.faults disk.new ≡ D.faults disk.old) }
     ensures faultless { D.faultless disk.old → D.faultless disk.new × (D.faults disk.new ≡ D.faults disk.old) × (IsErrOf result TheVariants.Disk → ⊥) }
 {
     claim(disk, 6, 17)?;
@@ -139,6 +141,7 @@ pub fn lay_out_entries<D: Disk>(
     ensures any_moment { OnlyEmpty (D.images disk.old) → LeavesOnly D.moment D.left_since disk.old disk.new (IsNoneOrWhole entries.now) }
     ensures later { D.faults disk.old ≤ D.faults disk.new }
     ensures cause { IsErrOf result TheVariants.Disk → Rose (D.faults disk.old) (D.faults disk.new) }
+    ensures still { OnOk result (D.faults disk.new ≡ D.faults disk.old) }
     ensures faultless { D.faultless disk.old → D.faultless disk.new × (D.faults disk.new ≡ D.faults disk.old) × (IsErrOf result TheVariants.Disk → ⊥) }
 {
     let body = body_of(alloc, entries)?;

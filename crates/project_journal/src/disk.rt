@@ -13,8 +13,9 @@ use mark_base::{Failed, Memory};
 ///
 /// The crash model: between two syncs each written range and the part past the old end may hold any
 /// bytes, and other bytes stay. After a sync that succeeds a crash leaves what a read gives. A call that
-/// failed may have done a part of its work, and a sync that failed makes nothing durable, adds no image
-/// and changes no reading.
+/// failed may have done a part of its work. A sync that failed makes nothing durable and adds no image,
+/// and what a read gives after it is some image, not always what it gave before: a system may drop the
+/// bytes that it could not write.
 pub trait Disk {
     /// What a read gives, where the disk tells it.
     ghost holds: { Self → Option (List ℕ) };
@@ -107,11 +108,13 @@ pub trait Disk {
         ensures time { Elapses (moment self.old) (moment self.new) (left_since self.old) (left_since self.new) (images self.new) }
         ensures counts { Counts (faults self.old) (faults self.new) (faultless self.old) (faultless self.new) (is_ok result) };
 
-    /// Makes what a read gives the only thing that a crash can leave.
+    /// Makes what a read gives the only thing that a crash can leave. After `Failed` a read may give any
+    /// of the images that there were.
     fn sync(&mut self) -> Result<(), Failed>
         requires { 1 ≤ spare self.old }
         ensures durable { OnOk result (Durable (holds self.new) (images self.new)) }
-        ensures holds { holds self.new ≡ holds self.old }
+        ensures holds { OnOk result (holds self.new ≡ holds self.old) }
+        ensures told { is_some (holds self.new) ≡ is_some (holds self.old) }
         ensures images { NoMore (images self.old) (images self.new) }
         ensures spends { Spends (spare self.old) (spare self.new) (reach self.old) (reach self.new) }
         ensures time { Elapses (moment self.old) (moment self.new) (left_since self.old) (left_since self.new) (images self.new) }

@@ -1,5 +1,5 @@
 //! A journal: entries in a file, each whole or not at all after a stop at any moment.
-ghost use Rattle.std.specs.Prelude.{◌≡◌, ◌⊎◌, ℕ, ◌+◌, ◌<◌, ◌≤◌, ◌^◌, ◌++◌, [], ◌∷◌, true, false, List, Option, Some, None, length, is_ok, MatchResult, IfOk, IfErr, OnOk, OnErr, option_map};
+ghost use Rattle.std.specs.Prelude.{◌≡◌, ◌⊎◌, ℕ, ◌+◌, ◌<◌, ◌≤◌, ◌^◌, ◌++◌, [], ◌∷◌, true, false, List, Option, Some, None, length, is_ok, is_some, MatchResult, IfOk, IfErr, OnOk, OnErr, option_map};
 ghost use Rattle.std.specs.List.{All};
 ghost use Rattle.mark_base.specs.Streams.{Rose};
 ghost use Rattle.project_journal.specs.declared.journal_fault.JournalFault.TheVariants;
@@ -53,6 +53,7 @@ impl<D: Disk + Drop> Journal<D> {
         ensures already { IfErr result (λ e. (n : ℕ) → e.1 ≡ TheVariants.AlreadyThere n → (D.holds e.0 ≡ D.holds disk) × NoMore (D.images disk) (D.images e.0)) }
         ensures memory { IfErr result (λ e. e.1 ≡ TheVariants.Memory → (D.holds e.0 ≡ D.holds disk) × NoMore (D.images disk) (D.images e.0)) }
         ensures later { MatchResult result (λ j. D.faults disk ≤ D.faults (disk_of j)) (λ e. D.faults disk ≤ D.faults e.0) }
+        ensures still { IfOk result (λ j. D.faults (disk_of j) ≡ D.faults disk) }
         ensures cause { IfErr result (λ e. e.1 ≡ TheVariants.Disk → Rose (D.faults disk) (D.faults e.0)) }
         ensures faultless { D.faultless disk → MatchResult result (λ j. ⟦<Journal<D> as Keeper>⟧.faultless j × (D.faults (disk_of j) ≡ D.faults disk)) (λ e. D.faultless e.0 × (D.faults e.0 ≡ D.faults disk) × (e.1 ≡ TheVariants.Disk → ⊥)) }
     {
@@ -89,6 +90,7 @@ impl<D: Disk + Drop> Journal<D> {
         ensures memory { IfErr result (λ e. e.1 ≡ TheVariants.Memory → (D.holds e.0 ≡ D.holds disk) × NoMore (D.images disk) (D.images e.0)) }
         ensures any_moment { OnlyEmpty (D.images disk) → MatchResult result (λ j. LeavesOnly D.moment D.left_since disk (disk_of j) (IsNoneOrWhole entries.now)) (λ e. LeavesOnly D.moment D.left_since disk e.0 (IsNoneOrWhole entries.now)) }
         ensures later { MatchResult result (λ j. D.faults disk ≤ D.faults (disk_of j)) (λ e. D.faults disk ≤ D.faults e.0) }
+        ensures still { IfOk result (λ j. D.faults (disk_of j) ≡ D.faults disk) }
         ensures cause { IfErr result (λ e. e.1 ≡ TheVariants.Disk → Rose (D.faults disk) (D.faults e.0)) }
         ensures faultless { D.faultless disk → MatchResult result (λ j. ⟦<Journal<D> as Keeper>⟧.faultless j × (D.faults (disk_of j) ≡ D.faults disk)) (λ e. D.faultless e.0 × (D.faults e.0 ≡ D.faults disk) × (e.1 ≡ TheVariants.Disk → ⊥)) }
     {
@@ -105,7 +107,8 @@ impl<D: Disk + Drop> Journal<D> {
     }
 
     /// Opens a file that a stop may have left, and gives its entries. A refusal gives the disk back, with
-    /// its file as it was. Cost: the length of the file, in time and twice in memory.
+    /// its file as it was, but for `Disk`: after a sync that failed a read may give another of the
+    /// contents that a crash could have left. Cost: the length of the file, in time and twice in memory.
     pub fn open(alloc: Global, disk: D) -> Result<(Journal<D>, Vec<Bytes>), (D, JournalFault)>
         ensures entries { IfOk result (λ r. (file : List ℕ) → D.holds disk ≡ Some file → opened file ≡ Some r.1.items) }
         ensures kept { IfOk result (λ r. ⟦<Journal<D> as Keeper>⟧.kept r.0 ≡ option_map (λ _. r.1.items) (D.holds disk)) }
@@ -118,10 +121,15 @@ impl<D: Disk + Drop> Journal<D> {
         // Over what a stop left of a journal it gives a list that the journal tells as left.
         ensures after_stop { IfOk result (λ r. (stopped : Self D ⟦<D as Disk>⟧) (t : ℕ) (image : List ℕ) → D.left_since (disk_of stopped) t image → D.holds disk ≡ Some image
             → ⟦<Journal<D> as Keeper>⟧.left_since stopped t (Some r.1.items)) }
-        ensures holds { MatchResult result (λ r. D.holds (disk_of r.0) ≡ D.holds disk) (λ e. D.holds e.0 ≡ D.holds disk) }
+        ensures sized { IfOk result (λ r. All IsEntry r.1.items) }
+        ensures holds { MatchResult result (λ r. D.holds (disk_of r.0) ≡ D.holds disk) (λ e. (e.1 ≡ TheVariants.Disk → ⊥) → D.holds e.0 ≡ D.holds disk) }
+        ensures told { MatchResult result (λ r. is_some (D.holds (disk_of r.0)) ≡ is_some (D.holds disk)) (λ e. is_some (D.holds e.0) ≡ is_some (D.holds disk)) }
         ensures images { MatchResult result (λ r. NoMore (D.images disk) (D.images (disk_of r.0))) (λ e. NoMore (D.images disk) (D.images e.0)) }
         ensures any_moment { MatchResult result (λ r. LeavesOnly D.moment D.left_since disk (disk_of r.0) (D.images disk)) (λ e. LeavesOnly D.moment D.left_since disk e.0 (D.images disk)) }
         ensures later { MatchResult result (λ r. D.faults disk ≤ D.faults (disk_of r.0)) (λ e. D.faults disk ≤ D.faults e.0) }
+
+        // No call of the disk failed: a file whose sync failed is not opened.
+        ensures still { IfOk result (λ r. D.faults (disk_of r.0) ≡ D.faults disk) }
         ensures cause { IfErr result (λ e. e.1 ≡ TheVariants.Disk → Rose (D.faults disk) (D.faults e.0)) }
         ensures faultless { D.faultless disk → MatchResult result (λ r. ⟦<Journal<D> as Keeper>⟧.faultless r.0 × (D.faults (disk_of r.0) ≡ D.faults disk)) (λ e. D.faultless e.0 × (D.faults e.0 ≡ D.faults disk) × (e.1 ≡ TheVariants.Disk → ⊥)) }
     {
@@ -138,6 +146,20 @@ impl<D: Disk + Drop> Journal<D> {
             )),
             Err(fault) => Err((disk, fault)),
         }
+    }
+
+    /// States what a journal promises of its disk. It does nothing when it runs.
+    pub fn keeps(&self)
+        ensures faults { ⟦<Journal<D> as Keeper>⟧.faults self.now ≡ D.faults (disk_of self.now) }
+        ensures moment { ⟦<Journal<D> as Keeper>⟧.moment self.now ≡ D.moment (disk_of self.now) }
+        ensures faultless { ⟦<Journal<D> as Keeper>⟧.faultless self.now → D.faultless (disk_of self.now) }
+
+        // What a stop left of the disk opens to what it left of the journal, also where it does not open.
+        ensures stops { (t : ℕ) (image : List ℕ) → D.left_since (disk_of self.now) t image → ⟦<Journal<D> as Keeper>⟧.left_since self.now t (opened image) }
+        ensures images { (t : ℕ) (found : Option (List (List ℕ))) → ⟦<Journal<D> as Keeper>⟧.left_since self.now t found
+            → (image : List ℕ) × D.left_since (disk_of self.now) t image × (opened image ≡ found) }
+    {
+        let _ = &self.disk;
     }
 
     /// Gives the disk up.

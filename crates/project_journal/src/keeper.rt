@@ -73,6 +73,7 @@ pub trait Keeper: Drop {
 
         ensures later { faults self.old ≤ faults self.new }
         ensures failed { IsErrOf result KeeperFault.Failed → Rose (faults self.old) (faults self.new) }
+        ensures still { OnOk result (faults self.new ≡ faults self.old) }
         ensures faultless_stays { faultless self.old → faultless self.new × (faults self.new ≡ faults self.old) }
         ensures faultless_not_failed { faultless self.old → IsErrOf result KeeperFault.Failed → ⊥ };
 

@@ -31,8 +31,6 @@ mod memory_file;
 mod memory_keeper;
 mod opening;
 mod past_calls;
-#[cfg(test)]
-mod tests;
 mod worked_files;
 
 pub use crate::disk::Disk;

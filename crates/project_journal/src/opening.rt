@@ -1,10 +1,11 @@
 //! Reading the file of a journal.
-ghost use Rattle.std.specs.Prelude.{◌≡◌, ◌⊎◌, ℕ, ◌+◌, ◌<◌, ◌≤◌, ◌^◌, true, false, List, Some, None, length, take, vec_len, OnOk, IfOk, IfErr, IsErrOf, IfSome, IfNone};
+ghost use Rattle.std.specs.Prelude.{◌≡◌, ◌⊎◌, ℕ, ◌+◌, ◌<◌, ◌≤◌, ◌^◌, true, false, List, Some, None, length, take, vec_len, OnOk, IfOk, IfErr, IsErrOf, IfSome, IfNone, is_some};
 ghost use Rattle.mark_base.specs.Streams.{Rose};
 ghost use Rattle.project_journal.specs.declared.journal_fault.JournalFault.TheVariants;
 ghost use Rattle.project_journal.specs.Disk.{Durable, NoMore};
 ghost use Rattle.project_journal.specs.JournalFile.{is_journal, is_known, version, damage, bytes_of, whole_record};
 ghost use Rattle.project_journal.specs.Opening.{Reads, Refuses};
+ghost use Rattle.project_journal.specs.RecordLaws.{AreEntries};
 ghost use Rattle.project_journal.specs.Stops.{LeavesOnly};
 
 use crate::{Disk, JournalFault};
@@ -33,6 +34,7 @@ fn read_more<D: Disk>(
     ensures any_moment { LeavesOnly D.moment D.left_since disk.old disk.new (D.images disk.old) }
     ensures later { D.faults disk.old ≤ D.faults disk.new }
     ensures cause { IfErr result (λ e. (e ≡ TheVariants.Disk → Rose (D.faults disk.old) (D.faults disk.new)) × ((e ≡ TheVariants.Disk) ⊎ (e ≡ TheVariants.Memory))) }
+    ensures still { OnOk result (D.faults disk.new ≡ D.faults disk.old) }
     ensures faultless { D.faultless disk.old → D.faultless disk.new × (D.faults disk.new ≡ D.faults disk.old) × (IsErrOf result TheVariants.Disk → ⊥) }
 {
     disk.reserve(1, 0)?;
@@ -49,6 +51,7 @@ fn read_all<D: Disk>(alloc: Global, disk: &mut D) -> Result<Vec<u8>, JournalFaul
     ensures any_moment { LeavesOnly D.moment D.left_since disk.old disk.new (D.images disk.old) }
     ensures later { D.faults disk.old ≤ D.faults disk.new }
     ensures cause { IfErr result (λ e. (e ≡ TheVariants.Disk → Rose (D.faults disk.old) (D.faults disk.new)) × ((e ≡ TheVariants.Disk) ⊎ (e ≡ TheVariants.Memory))) }
+    ensures still { OnOk result (D.faults disk.new ≡ D.faults disk.old) }
     ensures faultless { D.faultless disk.old → D.faultless disk.new × (D.faults disk.new ≡ D.faults disk.old) × (IsErrOf result TheVariants.Disk → ⊥) }
 {
     let mut bytes = Vec::new(alloc);
@@ -134,18 +137,23 @@ fn read_contents(alloc: Global, bytes: &[u8]) -> Result<Contents, JournalFault>
     read_records(alloc, bytes)
 }
 
-/// Syncs the file and reads it whole.
+/// Syncs the file and reads it whole. A file that is not synced is not trusted: a read may give bytes that
+/// the device has never got.
 pub fn load<D: Disk>(alloc: Global, disk: &mut D) -> Result<Contents, JournalFault>
     ensures small { IfOk result (λ contents. contents.gate < 2 ^ 63) }
     ensures ok { IfOk result (λ contents. (file : List ℕ) → D.holds disk.old ≡ Some file → Reads file contents.gate contents.entries.items) }
     ensures err { IfErr result (λ e. (file : List ℕ) → D.holds disk.old ≡ Some file → (e ≡ TheVariants.Disk) ⊎ Refuses file e) }
     ensures opens_no_other { IfErr result (λ e. (n : ℕ) → e ≡ TheVariants.AlreadyThere n → ⊥) }
     ensures durable { OnOk result (Durable (D.holds disk.new) (D.images disk.new)) }
-    ensures holds { D.holds disk.new ≡ D.holds disk.old }
+    ensures sized { IfOk result (λ contents. AreEntries contents.entries.items) }
+    ensures holds { OnOk result (D.holds disk.new ≡ D.holds disk.old) }
+    ensures refused { IfErr result (λ e. (e ≡ TheVariants.Disk → ⊥) → D.holds disk.new ≡ D.holds disk.old) }
+    ensures told { is_some (D.holds disk.new) ≡ is_some (D.holds disk.old) }
     ensures images { NoMore (D.images disk.old) (D.images disk.new) }
     ensures any_moment { LeavesOnly D.moment D.left_since disk.old disk.new (D.images disk.old) }
     ensures later { D.faults disk.old ≤ D.faults disk.new }
     ensures cause { IsErrOf result TheVariants.Disk → Rose (D.faults disk.old) (D.faults disk.new) }
+    ensures still { OnOk result (D.faults disk.new ≡ D.faults disk.old) }
     ensures faultless { D.faultless disk.old → D.faultless disk.new × (D.faults disk.new ≡ D.faults disk.old) × (IsErrOf result TheVariants.Disk → ⊥) }
 {
     disk.reserve(1, 0)?;

@@ -34,4 +34,4 @@ returns-clause-any_moment g c =
 pub returns-clause-ok : goal.returns-clause-ok
 returns-clause-ok g c = λ f is.
     let within = c.requires.within f (g.met.D.Disk.read_is_image _ f is) in
-    c.sync.ensures.holds ∙ c.in_ok-write_at.ensures.written f is (omega (arith, within))
+    c.in_ok-sync.ensures.holds ∙ c.in_ok-write_at.ensures.written f is (omega (arith, within))

@@ -11,5 +11,6 @@ invariant-pieces g l = record {
   images : NoMore (g.D.Disk.images l.initial.disk) (g.D.Disk.images l.disk);
   run : LeavesOnly g.D.Disk.moment g.D.Disk.left_since l.initial.disk l.disk (g.D.Disk.images l.initial.disk);
   later : g.D.Disk.faults l.initial.disk ≤ g.D.Disk.faults l.disk;
+  still : g.D.Disk.faults l.disk ≡ g.D.Disk.faults l.initial.disk;
   faultless : g.D.Disk.faultless l.initial.disk → g.D.Disk.faultless l.disk × (g.D.Disk.faults l.disk ≡ g.D.Disk.faults l.initial.disk);
 }
