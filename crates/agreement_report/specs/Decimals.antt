@@ -1,3 +1,4 @@
+-- A fraction with four decimals, cut towards zero.
 use Rattle.std.specs.Prelude.{ℕ, ◌*◌, ◌/◌, ◌%◌, ◌&&◌, List, [], ◌++◌, codes, decimal, nat_lt, int_lt, pos, unsigned_abs, if◌then◌else◌}
 use Rattle.kappa_alpha.specs.declared.figures.Fraction.{Fraction}
 

@@ -1,3 +1,4 @@
+-- The tables of agreement as CSV.
 use Rattle.std.specs.Prelude.{ℕ, List, [], ◌∷◌, ◌++◌, codes, decimal, get_or, Option, Some, None, ◌≡◌, ◌<◌, false, IfSome}
 use Rattle.std.specs.Fmt.{signed_decimal}
 use Rattle.std.specs.List.{flat_map}

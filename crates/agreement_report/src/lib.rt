@@ -12,11 +12,7 @@
 #![tactic(auto)]
 
 mod figure;
-#[cfg(test)]
-mod layer_tests;
 mod report;
-#[cfg(test)]
-mod tests;
 
 pub use figure::decimals;
 pub use report::{alpha_csv, pairs_csv};

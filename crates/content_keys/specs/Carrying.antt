@@ -1,4 +1,4 @@
--- A content carried over: each name replaced by the place that it moves to.
+-- A content carried over: each name replaced by the place that it moves to (private calls only).
 use Rattle.std.specs.Prelude.{◌≡◌, ◌⊎◌, ℕ, ◌<◌, List, [], ◌∷◌, map, length, slice_index, slice_index_or, Option, Some, None, option_map, unwrap_or, MatchOption}
 use Rattle.content_keys.specs.Numbers.{sorted}
 use Rattle.content_keys.specs.Nodes.{Node, Names}

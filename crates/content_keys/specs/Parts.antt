@@ -1,4 +1,4 @@
--- The parts of an annotation as they are gathered.
+-- The parts of an annotation as they are gathered (private calls only).
 use Rattle.std.specs.Prelude.{map}
 use Rattle.mark_base.specs.declared.ann_id.AnnId.{AnnId}
 use Rattle.content_keys.specs.declared.parts.Parts.{Parts}

@@ -1,3 +1,4 @@
+-- What the raters gave to one token, and what is counted of it.
 use Rattle.std.specs.Prelude.{ℕ, ◌+◌, ◌-◌, ◌/◌, ◌<◌, ◌==◌, ◌&&◌, List, [], ◌∷◌, get_or, if◌then◌else◌, nat_lt}
 use Rattle.std.specs.Prelude.{Bool, false, Option, Some, None, is_some, sum_by, count_by, All, IfSome}
 

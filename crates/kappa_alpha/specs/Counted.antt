@@ -1,3 +1,4 @@
+-- The running counts, and that they are those of a recount (private calls only).
 use Rattle.std.specs.Prelude.{◌≡◌, ℕ, ◌+◌, ◌<◌, ◌≤◌, ◌==◌, ◌^◌, List, get_or, length, replicate, slice_index, if◌then◌else◌, sum_by, Option, None, IfSome, ⊤}
 use Rattle.label_tracks.specs.Grid.{cell_of}
 use Rattle.kappa_alpha.specs.Columns.{Column, worth, ordered, toward, coincidence_at, confusion_at, label_at, unit_at}

@@ -1,3 +1,4 @@
+-- Kappa of two raters (Cohen 1960) and nominal alpha (Krippendorff), as fractions that are not reduced.
 use Rattle.std.specs.Prelude.{ℕ, ◌-◌, ◌*◌, ◌==◌, ◌^◌, ℤ, pos, ◌-ℤ◌, ◌<ℤ◌, ◌≤ℤ◌, neg_ℤ, if◌then◌else◌, Option, Some, None}
 use Rattle.kappa_alpha.specs.Standing.{Standing, sum_below, confusion_of, shared_of, coincidence_of, labels_of, units_of}
 use Rattle.kappa_alpha.specs.declared.figures.Fraction.{Fraction}

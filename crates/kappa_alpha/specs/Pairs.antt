@@ -1,3 +1,4 @@
+-- Sums over pairs of raters (private calls only).
 use Rattle.std.specs.Prelude.{◌≡◌, ℕ, ◌+◌, ◌*◌, ◌<◌, ◌==◌, ◌&&◌, List, [], get_or, length, Option, None, if◌then◌else◌}
 use Rattle.label_tracks.specs.Grid.{Grid, cell_of}
 use Rattle.kappa_alpha.specs.Columns.{worth}

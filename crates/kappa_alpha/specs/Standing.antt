@@ -1,3 +1,4 @@
+-- The rows of labels that stand, and sums over them.
 use Rattle.std.specs.Prelude.{ℕ, zero, suc, ◌+◌, List, [], ◌∷◌, ◌++◌, get_or, set, map, replicate, slice_index, Option, Some, None, sum_by}
 use Rattle.kappa_alpha.specs.Columns.{Column, confusion_at, coincidence_at, label_at, unit_at, shared_at}
 

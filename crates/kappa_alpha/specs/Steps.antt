@@ -1,3 +1,4 @@
+-- How many steps a row costs that is put or dropped.
 use Rattle.std.specs.Prelude.{ℕ, ◌+◌, ◌*◌, ◌==◌, List, slice_index, Option, Some, None, is_some, count_by, cond, Bool, true, false, if◌then◌else◌}
 use Rattle.kappa_alpha.specs.Standing.{Rows, Standing, document_at, sum_below, label_of}
 

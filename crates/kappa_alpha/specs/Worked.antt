@@ -1,3 +1,4 @@
+-- A standing that was worked out by hand.
 use Rattle.std.specs.Prelude.{ℕ, List, [], ◌∷◌, Some, None}
 use Rattle.kappa_alpha.specs.Standing.{Rows, Standing}
 

@@ -32,12 +32,8 @@ mod moves;
 mod pairs;
 mod rows;
 mod shift;
-#[cfg(test)]
-mod standings;
 mod tables;
 mod tallies;
-#[cfg(test)]
-mod tests;
 mod weight;
 mod worked;
 

@@ -237,7 +237,6 @@ impl Tables {
 }
 
 /// The tokens of these documents.
-#[cfg(test)]
 fn tokens_of(documents: &[DocumentRows]) -> u64
     requires { tokens_in documents.now < 2 ^ 32 }
     ensures { result ≡ tokens_in documents.now }
@@ -249,66 +248,45 @@ fn tokens_of(documents: &[DocumentRows]) -> u64
     total
 }
 
-/// Calls that test their own conditions, for tests over cases as data.
-#[cfg(test)]
+/// What a caller asks before it calls, where it does not know.
 impl Tables {
-    /// Admits a document, where the call's conditions hold.
-    pub(crate) fn admit_of(&mut self, tokens: u32) -> Option<usize> {
-        let taken = tokens_of(self.documents.as_slice());
-        if self.ready.is_empty() || self.documents.len() >= 16 || taken + tokens as u64 > 1000 {
-            return None;
-        }
-        Some(self.admit(tokens) as usize)
+    /// How many raters there are.
+    pub fn raters(&self) -> u8
+        ensures { result ≡ self.now.raters }
+    {
+        self.raters
     }
 
-    /// Posts a row or, with no label, drops one, where the call's conditions hold: how long the
-    /// row before was.
-    pub(crate) fn post_of<L: Ledger>(
-        &mut self,
-        at: usize,
-        rater: u8,
-        labels: Vec<u8>,
-        steps: &mut Steps<L>,
-    ) -> Option<Option<usize>> {
-        let categories = self.categories;
-        if at >= 16 || at >= self.documents.len() || rater >= self.raters {
-            return None;
-        }
-        let doc = at as u32;
-        if labels.is_empty() {
-            let stood = self.drop_row(doc, rater, steps);
-            return Some(stood.map(|row| row.len() as usize));
-        }
-        if self.documents[at].tokens as usize != labels.len()
-            || !labels.iter().all(|label| *label < categories)
-        {
-            return None;
-        }
-        let stood = self.post(doc, rater, LabelRow::of(labels), steps);
-        Some(stood.map(|row| row.len() as usize))
+    /// How many labels there are.
+    pub fn categories(&self) -> u8
+        ensures { result ≡ self.now.categories }
+    {
+        self.categories
     }
 
-    pub(crate) fn pair_of(&self, a: u8, b: u8) -> Option<PairLine> {
-        if a < b && b < self.raters {
-            Some(self.pair(a, b))
+    /// How many documents were admitted.
+    pub fn document_count(&self) -> usize
+        ensures { result ≡ length self.now.documents }
+    {
+        self.documents.len()
+    }
+
+    /// How many tokens a document has, by its number from 0; `None` where there is no such document.
+    pub fn tokens_on(&self, doc: u32) -> Option<u32>
+        ensures some { IfSome result (λ tokens. (doc < length self.now.documents) × (tokens ≡ (document_at self.now.documents doc).tokens)) }
+        ensures none { IfNone result (length self.now.documents ≤ doc) }
+    {
+        if (doc as usize) < self.documents.len() {
+            Some(self.documents[doc as usize].tokens)
         } else {
             None
         }
     }
 
-    pub(crate) fn kappa_of(&self, a: u8, b: u8) -> Option<Option<Fraction>> {
-        if a < b && b < self.raters {
-            Some(self.kappa(a, b))
-        } else {
-            None
-        }
-    }
-
-    pub(crate) fn confusion_of(&self, a: u8, b: u8, c: u8, k: u8) -> Option<u64> {
-        if a < b && b < self.raters && c < self.categories && k < self.categories {
-            Some(self.confusion(a, b, c, k))
-        } else {
-            None
-        }
+    /// How many tokens all documents have. Cost: a step for each document.
+    pub fn token_count(&self) -> u64
+        ensures { result ≡ tokens_in self.now.documents }
+    {
+        tokens_of(self.documents.as_slice())
     }
 }

@@ -1,3 +1,4 @@
+-- A square of counts over labels (a contingency table).
 use Rattle.std.specs.Prelude.{ℕ, ◌+◌, ◌*◌, List, slice_index}
 
 -- A square of counts over labels, row by row: a contingency table.

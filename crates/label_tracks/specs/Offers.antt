@@ -1,4 +1,4 @@
--- What is found for each token while spans are gone over.
+-- What is found for each token while spans are gone over (private calls only).
 use Rattle.std.specs.Prelude.{◌≡◌, ℕ, ◌<◌, ◌&&◌, Bool, List, map, length, nat_lt, nat_le, slice_index, slice_index_or, Option, None, if◌then◌else◌}
 use Rattle.std.specs.Option.{option_map_or}
 use Rattle.mark_base.specs.declared.fragments.Frag.{Frag}

@@ -1,4 +1,0 @@
-use Rattle.agreement_report.proofs.layer_tests.a_span_labels_the_tokens_that_it_covers.Given as goal
-
-abbrev pub ghosts-apart : goal.ghosts-apart
-ghosts-apart a b = record { name = b.blank.name; parts = b.blank.parts }
