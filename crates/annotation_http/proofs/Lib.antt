@@ -1,3 +1,4 @@
+mod FaultLemmas
 mod DeskLemmas
 mod NothingLemmas
 mod SessionLemmas

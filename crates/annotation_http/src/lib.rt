@@ -19,8 +19,6 @@ mod desk;
 mod refusals;
 mod route;
 mod session;
-#[cfg(test)]
-mod tests;
 
 pub use crate::desk::FirstDesk;
 pub use crate::refusals::rule_name;

@@ -2,7 +2,7 @@
 ghost use Rattle.std.specs.Prelude.{◌≡◌, ◌<◌, ◌≤◌, length, true};
 ghost use Rattle.http.specs.StatusCode.{IsStatusCode};
 ghost use Rattle.http_wire.specs.Answers.{answer_bytes_of, refusal};
-ghost use Rattle.mark_base.specs.Streams.{OnlyWrites, Rose};
+ghost use Rattle.mark_base.specs.Streams.{OnlyWrites, TellsFault};
 ghost use Rattle.annotation_http.specs.Session.{AnswerEnds, SendEnds, SessionTold, StopEnds, UnableEnds, ended};
 
 use crate::desk::FirstDesk;
@@ -47,7 +47,7 @@ pub enum Ending {
 /// Ends a connection that has no memory.
 fn end_unable<L: Link>(link: &mut L) -> Ending
     ensures told { UnableEnds (L.held link.old) (L.held link.new) result }
-    ensures cause { result ≡ Ending.WriteFault → Rose (L.write_faults link.old) (L.write_faults link.new) }
+    ensures cause { TellsFault (result ≡ Ending.WriteFault) (L.write_faults link.old) (L.write_faults link.new) }
     ensures apart { OnlyWrites L.left L.read_faults L.write_faults link.old link.new }
 {
     match send_unable(link, PLACE) {
@@ -65,7 +65,7 @@ fn send_answer<L: Link>(
 ) -> Result<(), Ending>
     requires { IsStatusCode answer.now.status }
     ensures told { SendEnds (answer_bytes_of answer.now 3 last) (L.held link.old) (L.held link.new) result }
-    ensures cause { result ≡ Err Ending.WriteFault → Rose (L.write_faults link.old) (L.write_faults link.new) }
+    ensures cause { TellsFault (result ≡ Err Ending.WriteFault) (L.write_faults link.old) (L.write_faults link.new) }
     ensures apart { OnlyWrites L.left L.read_faults L.write_faults link.old link.new }
 {
     let bytes = match answer_bytes(alloc, answer, PLACE, last) {
@@ -89,7 +89,7 @@ fn answer_message<L: Link>(
     requires count { count < 1000000 }
     requires short { length message.now.body ≤ 4194304 }
     ensures told { AnswerEnds desk.old message.now desk.new (L.held link.old) (L.held link.new) count result }
-    ensures cause { result ≡ Err Ending.WriteFault → Rose (L.write_faults link.old) (L.write_faults link.new) }
+    ensures cause { TellsFault (result ≡ Err Ending.WriteFault) (L.write_faults link.old) (L.write_faults link.new) }
     ensures apart { OnlyWrites L.left L.read_faults L.write_faults link.old link.new }
 {
     let answer = match desk.answer(message) {
@@ -104,7 +104,7 @@ fn answer_message<L: Link>(
 fn refuse_last<L: Link>(alloc: Global, link: &mut L, status: u16, name: &str) -> Result<(), Ending>
     requires { IsStatusCode status }
     ensures told { SendEnds (answer_bytes_of (refusal status name.now) 3 true) (L.held link.old) (L.held link.new) result }
-    ensures cause { result ≡ Err Ending.WriteFault → Rose (L.write_faults link.old) (L.write_faults link.new) }
+    ensures cause { TellsFault (result ≡ Err Ending.WriteFault) (L.write_faults link.old) (L.write_faults link.new) }
     ensures apart { OnlyWrites L.left L.read_faults L.write_faults link.old link.new }
 {
     match Answer::refusal(alloc, status, name) {
@@ -126,8 +126,9 @@ fn ended(sending: Result<(), Ending>, named: Ending) -> Ending
 /// Ends a connection by a stop, with its answer where it has one.
 fn end_stopped<L: Link>(alloc: Global, link: &mut L, stop: Stop) -> Ending
     ensures told { StopEnds stop (L.held link.old) (L.held link.new) result }
-    ensures cause { result ≡ Ending.WriteFault → Rose (L.write_faults link.old) (L.write_faults link.new) }
+    ensures cause { TellsFault (result ≡ Ending.WriteFault) (L.write_faults link.old) (L.write_faults link.new) }
     ensures read { (result ≡ Ending.ReadFault) → (stop ≡ Stop.ReadFault) }
+    ensures read_fault { (stop ≡ Stop.ReadFault) → (result ≡ Ending.ReadFault) }
     ensures apart { OnlyWrites L.left L.read_faults L.write_faults link.old link.new }
 {
     match stop {
@@ -151,12 +152,13 @@ fn end_stopped<L: Link>(alloc: Global, link: &mut L, stop: Stop) -> Ending
 /// What the desk was asked to do stands also where the answer was not written whole. Where memory runs out,
 /// the last message was carried out, or it left the desk as it was. Memory held at a time is that of the
 /// bytes read, one message with its body's JSON or its layer, one answer, and a copy of the layer, beside the
-/// desk. Cost: the bytes read and written, a check of the layer for each command, and for undo all commands
+/// desk. An ending that is no fault left both counts of the link as they were: no read and no write failed.
+/// Cost: the bytes read and written, a check of the layer for each command, and for undo all commands
 /// that are done.
 pub fn serve_link<L: Link>(alloc: Global, desk: &mut FirstDesk, link: &mut L) -> Ending
     ensures session { SessionTold desk.old desk.new (L.left link.old) (L.left link.new) (L.held link.old) (L.held link.new) result }
-    ensures read { result ≡ Ending.ReadFault → Rose (L.read_faults link.old) (L.read_faults link.new) }
-    ensures write { result ≡ Ending.WriteFault → Rose (L.write_faults link.old) (L.write_faults link.new) }
+    ensures read { TellsFault (result ≡ Ending.ReadFault) (L.read_faults link.old) (L.read_faults link.new) }
+    ensures write { TellsFault (result ≡ Ending.WriteFault) (L.write_faults link.old) (L.write_faults link.new) }
 {
     let mut inbox = match Inbox::new(alloc) {
         Ok(inbox) => inbox,

@@ -3,6 +3,7 @@ pub mod DecimalLemmas
 pub mod FieldLemmas
 pub mod HeadLemmas
 pub mod MessageLemmas
+pub mod NextLemmas
 pub mod StreamLemmas
 pub mod TakeLemmas
 pub mod TextLemmas

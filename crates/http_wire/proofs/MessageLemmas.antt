@@ -23,10 +23,10 @@ same_front a b x y n e = (
 )
 
 -- one head stands at the front
-one_head : (bytes : List ℕ) (h k : RequestHead) (x y : List ℕ) → StandsHead bytes h x → StandsHead bytes k y → (h ≡ k) × (x ≡ y)
+pub one_head : (bytes : List ℕ) (h k : RequestHead) (x y : List ℕ) → StandsHead bytes h x → StandsHead bytes k y → (h ≡ k) × (x ≡ y)
 one_head bytes h k x y p q = request_unique bytes h k x y p.reads q.reads
 
-one_size : (h k : RequestHead) → h ≡ k → body_size h.method (fields_of h) ≡ body_size k.method (fields_of k)
+pub one_size : (h k : RequestHead) → h ≡ k → body_size h.method (fields_of h) ≡ body_size k.method (fields_of k)
 one_size h k same = ap (λ (x : RequestHead). body_size x.method (fields_of x)) same
 
 pub message_unique : (bytes : List ℕ) (a b : Message) (x y : List ℕ) → ReadsMessage bytes a x → ReadsMessage bytes b y → (a ≡ b) × (x ≡ y)

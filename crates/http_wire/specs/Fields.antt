@@ -48,9 +48,13 @@ abbrev pub has_word : List ℕ → List ℕ → Bool
 has_word word value =
     list_any (λ piece. str_eq_ignore_ascii_case (trim_ows piece) word) (slice_split (λ byte. byte == 44) value)
 
+-- a field Connection that has the word close
+abbrev pub is_close : List ℕ × List ℕ → Bool
+is_close field = is_named (codes "connection") field && has_word (codes "close") field.1
+
 -- some field Connection has the word close
 abbrev pub asks_to_close : List (List ℕ × List ℕ) → Bool
-asks_to_close fields = list_any (λ field. is_named (codes "connection") field && has_word (codes "close") field.1) fields
+asks_to_close fields = list_any is_close fields
 
 -- the value where it is UTF-8
 abbrev pub text_value : List ℕ → Option (List ℕ)

@@ -1,4 +1,4 @@
--- What the reader of a head has found in the bytes so far.
+-- What the reader of a head has found in the bytes so far (private calls only).
 use Rattle.std.specs.Prelude.{◌≡◌, ℕ, ◌≤◌, List, ◌++◌, length, drop, map, Ok, ◌==◌, ◌||◌, ⊤}
 use Rattle.httparse.specs.Grammar.{RequestHead, print_request}
 use Rattle.httparse.specs.declared.spans.HeaderSpan.{HeaderSpan}

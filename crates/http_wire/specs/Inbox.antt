@@ -1,16 +1,24 @@
 -- What the reader of messages has done to the bytes that it holds and to those that are left in the link.
-use Rattle.std.specs.Prelude.{◌≡◌, ℕ, ◌≤◌, Bool, List, length, Option, Some, None, IfSome, ⊤}
+use Rattle.std.specs.Prelude.{◌≡◌, ℕ, ◌≤◌, ◌⊎◌, Bool, List, length, Option, Some, None, IfSome, ⊤}
 use Rattle.std.specs.Io.KnownBytes.{IsAtEnd}
 use Rattle.httparse.specs.declared.spans.HeaderSpan.{HeaderSpan}
 use Rattle.http_wire.specs.declared.message.Message.{Message}
 use Rattle.http_wire.specs.declared.stop.Stop.{Stop}
 use Rattle.http_wire.specs.declared.stop.Stop.TheVariants.{End, Cut, BadHead, TooLarge, Encoded, NeedsLength, ReadFault, Memory}
-use Rattle.http_wire.specs.Messages.{ReadsMessage, IsUnfinished, StopsWith}
+use Rattle.http_wire.specs.Messages.{HasFault, ReadsMessage, IsUnfinished, StopsWith}
 
 -- the bytes that were read and belong to no message yet, and whether a stop was answered
 pub record InboxState : Type 0 where
   pub held : List ℕ
   pub stopped : Bool
+
+-- a whole message stands at the front of the bytes
+abbrev pub HoldsMessage : List ℕ → Type 0
+HoldsMessage held = (message : Message) × (rest : List ℕ) × ReadsMessage held message rest
+
+-- the bytes settle what comes next: a whole message stands at their front, or a whole head that has a fault
+abbrev pub HoldsNext : List ℕ → Type 0
+HoldsNext held = HoldsMessage held ⊎ ((stop : Stop) × HasFault held stop)
 
 -- where the bytes are told: they are the message, and then the ones that are told now
 abbrev pub TakesMessage : Option (List ℕ) → Message → Option (List ℕ) → Type 0

@@ -1,10 +1,11 @@
--- What the steps that take one message have done to the bytes held and to those left.
+-- What the steps that take one message have done to the bytes held and to those left (private calls only).
 use Rattle.std.specs.Prelude.{◌≡◌, ℕ, ◌<◌, Bool, true, false, not, ◌&&◌, ◌==◌, if◌then◌else◌, List, [], ◌∷◌, ◌++◌, length, Option, ⊤}
 use Rattle.std.specs.Io.KnownBytes.{IsAtEnd}
 use Rattle.http_wire.specs.declared.message.Message.{Message}
 use Rattle.http_wire.specs.declared.stop.Stop.{Stop}
 use Rattle.http_wire.specs.declared.stop.Stop.TheVariants.{End, Cut, BadHead, TooLarge, Encoded, NeedsLength, ReadFault, Memory}
-use Rattle.http_wire.specs.Messages.{ReadsMessage}
+use Rattle.httparse.specs.Grammar.{RequestHead}
+use Rattle.http_wire.specs.Messages.{ReadsMessage, StandsHead}
 
 -- so many bytes came behind those that were there
 pub record GrowsBy (old new : List ℕ) (count : ℕ) : Type 0 where
@@ -16,6 +17,17 @@ pub record GrowsBy (old new : List ℕ) (count : ℕ) : Type 0 where
 pub record IsFrontOf (front all : List ℕ) : Type 0 where
   pub more : List ℕ
   pub bytes : all ≡ front ++ more
+
+-- a whole head stands at the front
+pub record HoldsHead (bytes : List ℕ) : Type 0 where
+  pub head : RequestHead
+  pub rest : List ℕ
+  pub stands : StandsHead bytes head rest
+
+-- nothing was read: the link and the bytes held are as before
+pub record ReadsNothing {L : Type 0} (old new : L) (held_old held_new : List ℕ) : Type 0 where
+  pub link : new ≡ old
+  pub held : held_new ≡ held_old
 
 -- a test of empty lines, from a place behind a carriage return or from another one
 abbrev pub empty_lines_after : Bool → List ℕ → Bool

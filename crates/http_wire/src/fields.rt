@@ -3,7 +3,7 @@ ghost use Rattle.std.specs.Prelude.{◌≡◌, ◌≤◌, ◌<◌, ◌^◌, ◌=
 ghost use Rattle.std.specs.List.{list_any};
 ghost use Rattle.std.specs.Str.Parse.{digits_value};
 ghost use Rattle.httparse.specs.Spans.{IsHeaderWithin, header_bytes};
-ghost use Rattle.http_wire.specs.Fields.{asks_to_close, first_value, is_length, is_named, is_other_length};
+ghost use Rattle.http_wire.specs.Fields.{asks_to_close, first_value, is_close, is_length, is_named, is_other_length};
 
 use crate::words::has_word;
 use httparse::spans::HeaderSpan;
@@ -21,16 +21,12 @@ pub fn find_value<'b>(buf: &'b [u8], fields: &[HeaderSpan], name: &[u8]) -> Opti
     requires { All (IsHeaderWithin (length buf.now)) fields.now }
     ensures { option_map (λ v. v.now) result ≡ first_value name.now (map (header_bytes buf.now) fields.now) }
 {
-    match fields {
-        [] => None,
-        [field, rest @ ..] => {
-            if has_name(buf, field, name) {
-                Some(field.value.of(buf))
-            } else {
-                find_value(buf, rest, name)
-            }
+    for field in fields {
+        if has_name(buf, field, name) {
+            return Some(field.value.of(buf));
         }
     }
+    None
 }
 
 /// The number that a value of Content-Length writes, where it has 1 to 18 digits and nothing else.
@@ -69,10 +65,20 @@ pub fn any_other(buf: &[u8], fields: &[HeaderSpan], number: u64) -> bool
     requires { All (IsHeaderWithin (length buf.now)) fields.now }
     ensures { result ≡ list_any (is_other_length number) (map (header_bytes buf.now) fields.now) }
 {
-    match fields {
-        [] => false,
-        [field, rest @ ..] => is_other(buf, field, number) || any_other(buf, rest, number),
+    for field in fields {
+        if is_other(buf, field, number) {
+            return true;
+        }
     }
+    false
+}
+
+/// Whether the field is a Connection that has the word `close`.
+fn is_close(buf: &[u8], field: &HeaderSpan) -> bool
+    requires { IsHeaderWithin (length buf.now) field.now }
+    ensures { result ≡ is_close (header_bytes buf.now field.now) }
+{
+    has_name(buf, field, b"connection") && has_word(field.value.of(buf), b"close")
 }
 
 /// Whether some field Connection has the word `close`.
@@ -80,11 +86,10 @@ pub fn wants_close(buf: &[u8], fields: &[HeaderSpan]) -> bool
     requires { All (IsHeaderWithin (length buf.now)) fields.now }
     ensures { result ≡ asks_to_close (map (header_bytes buf.now) fields.now) }
 {
-    match fields {
-        [] => false,
-        [field, rest @ ..] => {
-            (has_name(buf, field, b"connection") && has_word(field.value.of(buf), b"close"))
-                || wants_close(buf, rest)
+    for field in fields {
+        if is_close(buf, field) {
+            return true;
         }
     }
+    false
 }

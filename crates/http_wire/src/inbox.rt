@@ -1,8 +1,8 @@
 //! The messages of a link, in whatever pieces its bytes come.
 ghost use Rattle.std.specs.Prelude.{◌≡◌, ◌≢◌, ◌<◌, ◌≤◌, ◌+◌, [], false, length, Some, IfOk, IfErr, OnOk, OnErr, IsErrOf, IsFalse, is_err};
 ghost use Rattle.std.specs.Io.KnownBytes.{IsAtEnd, Keeps, prepend_known};
-ghost use Rattle.mark_base.specs.Streams.{OnlyReads, Rose};
-ghost use Rattle.http_wire.specs.Inbox.{StopsAsDefined, TakesMessage};
+ghost use Rattle.mark_base.specs.Streams.{OnlyReads, TellsFault};
+ghost use Rattle.http_wire.specs.Inbox.{HoldsNext, StopsAsDefined, TakesMessage};
 
 use crate::head::FIELD_ROOM;
 use crate::take::take_message;
@@ -61,7 +61,9 @@ impl Inbox {
     /// The next message of the link, or why there is none. Empty lines before a head are passed over.
     ///
     /// The bytes that were held and left before the call are the message's and those that are held and
-    /// left after it, where the link tells its bytes; by a stop none are lost. Cost: the bytes of the
+    /// left after it, where the link tells its bytes; by a stop none are lost. Where the bytes held begin
+    /// with a whole message, or with a whole head that is at fault, nothing is read: a message that came
+    /// whole is given before the link is waited for. Cost: the bytes of the
     /// message, 4,096 for each read and each message, and at most 16,384 more for each read before its
     /// head is whole. A body is copied once.
     pub fn next_message<L: Link>(&mut self, link: &mut L) -> Result<Message, Stop>
@@ -72,8 +74,11 @@ impl Inbox {
         ensures kept { OnErr result (Keeps (prepend_known self.old.held (L.left link.old)) (prepend_known self.new.held (L.left link.new))) }
         ensures stop { IfErr result (StopsAsDefined (prepend_known self.old.held (L.left link.old)) self.new.held (L.left link.new)) }
         ensures stopped { self.new.stopped ≡ is_err result }
-        ensures cause { IsErrOf result Stop.ReadFault → Rose (L.read_faults link.old) (L.read_faults link.new) }
+        ensures cause { TellsFault (IsErrOf result Stop.ReadFault) (L.read_faults link.old) (L.read_faults link.new) }
         ensures apart { OnlyReads L.held L.write_faults L.read_faults link.old link.new }
+
+        // What the bytes held settle needs no read: the link is as before.
+        ensures no_read { HoldsNext self.old.held → link.new ≡ link.old }
     {
         let taken = take_message(self.alloc, &mut self.held, &mut self.spans, link);
         self.stopped = taken.is_err();

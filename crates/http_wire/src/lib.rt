@@ -23,8 +23,6 @@ mod inbox;
 mod message;
 mod stop;
 mod take;
-#[cfg(test)]
-mod tests;
 mod unable;
 mod words;
 

@@ -1,11 +1,11 @@
 //! One message from the front of the bytes held, read on as far as it needs.
 ghost use Rattle.std.specs.Prelude.{◌≡◌, ◌≢◌, ◌<◌, ◌≤◌, ◌+◌, [], false, length, drop, Some, IfOk, IfErr, OnOk, OnErr, IsErrOf};
 ghost use Rattle.std.specs.Io.KnownBytes.{IsAtEnd, Keeps, prepend_known};
-ghost use Rattle.mark_base.specs.Streams.{OnlyReads, Rose};
+ghost use Rattle.mark_base.specs.Streams.{OnlyReads, TellsFault};
 ghost use Rattle.http_wire.specs.Heads.{IsHeadOf};
-ghost use Rattle.http_wire.specs.Inbox.{StopsAsDefined, TakesMessage};
+ghost use Rattle.http_wire.specs.Inbox.{HoldsNext, StopsAsDefined, TakesMessage};
 ghost use Rattle.http_wire.specs.Messages.{LacksHead};
-ghost use Rattle.http_wire.specs.Taking.{BytesStop, GrowsBy, IsFrontMessage, IsFrontOf, IsReadStop};
+ghost use Rattle.http_wire.specs.Taking.{BytesStop, GrowsBy, HoldsHead, IsFrontMessage, IsFrontOf, IsReadStop, ReadsNothing};
 
 use crate::empty_lines::is_empty_lines;
 use crate::head::{Head, HeadStep, LONGEST_HEAD, read_head};
@@ -26,7 +26,7 @@ fn read_more<L: Link>(held: &mut Vec<u8>, link: &mut L) -> Result<usize, Stop>
     ensures end { result ≡ Ok 0 → IsAtEnd (L.left link.new) }
     ensures err { OnErr result (held.new.items ≡ held.old.items) }
     ensures stop { IfErr result IsReadStop }
-    ensures cause { IsErrOf result Stop.ReadFault → Rose (L.read_faults link.old) (L.read_faults link.new) }
+    ensures cause { TellsFault (IsErrOf result Stop.ReadFault) (L.read_faults link.old) (L.read_faults link.new) }
     ensures apart { OnlyReads L.held L.write_faults L.read_faults link.old link.new }
 {
     let start = held.len();
@@ -59,8 +59,9 @@ fn await_head<L: Link>(
     ensures bound { length held.new.items ≤ 4214784 }
     ensures head { IfOk result (IsHeadOf held.new.items) }
     ensures stop { IfErr result (StopsAsDefined (prepend_known held.new.items (L.left link.new)) held.new.items (L.left link.new)) }
-    ensures cause { IsErrOf result Stop.ReadFault → Rose (L.read_faults link.old) (L.read_faults link.new) }
+    ensures cause { TellsFault (IsErrOf result Stop.ReadFault) (L.read_faults link.old) (L.read_faults link.new) }
     ensures apart { OnlyReads L.held L.write_faults L.read_faults link.old link.new }
+    ensures no_read { HoldsHead held.old.items → ReadsNothing link.old link.new held.old.items held.new.items }
 {
     loop {
         match read_head(alloc, held, spans)? {
@@ -112,8 +113,9 @@ fn await_bytes<L: Link>(held: &mut Vec<u8>, link: &mut L, count: usize) -> Resul
     ensures front { IsFrontOf held.old.items held.new.items }
     ensures enough { OnOk result (count ≤ length held.new.items) }
     ensures stop { IfErr result (BytesStop held.new.items (L.left link.new) count) }
-    ensures cause { IsErrOf result Stop.ReadFault → Rose (L.read_faults link.old) (L.read_faults link.new) }
+    ensures cause { TellsFault (IsErrOf result Stop.ReadFault) (L.read_faults link.old) (L.read_faults link.new) }
     ensures apart { OnlyReads L.held L.write_faults L.read_faults link.old link.new }
+    ensures no_read { count ≤ length held.old.items → ReadsNothing link.old link.new held.old.items held.new.items }
 {
     if held.len() >= count {
         return Ok(());
@@ -177,8 +179,9 @@ pub fn take_message<L: Link>(
     ensures kept { OnErr result (Keeps (prepend_known held.old.items (L.left link.old)) (prepend_known held.new.items (L.left link.new))) }
     ensures stop { IfErr result (StopsAsDefined (prepend_known held.old.items (L.left link.old)) held.new.items (L.left link.new)) }
     ensures bound { length held.new.items ≤ 4214784 }
-    ensures cause { IsErrOf result Stop.ReadFault → Rose (L.read_faults link.old) (L.read_faults link.new) }
+    ensures cause { TellsFault (IsErrOf result Stop.ReadFault) (L.read_faults link.old) (L.read_faults link.new) }
     ensures apart { OnlyReads L.held L.write_faults L.read_faults link.old link.new }
+    ensures no_read { HoldsNext held.old.items → link.new ≡ link.old }
 {
     let head = match await_head(alloc, held, spans, link) {
         Ok(head) => head,

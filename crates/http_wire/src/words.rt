@@ -8,20 +8,22 @@ ghost use Rattle.http_wire.specs.Fields.{has_word as value_has_word};
 fn trim_front(bytes: &[u8]) -> &[u8]
     ensures { result.now ≡ skip_ows bytes.now }
 {
-    match bytes {
-        [b' ' | b'\t', rest @ ..] => trim_front(rest),
-        _ => bytes,
+    let mut rest = bytes;
+    while let [b' ' | b'\t', behind @ ..] = rest {
+        rest = behind;
     }
+    rest
 }
 
 /// The bytes without the spaces and tabs behind them.
 fn trim_back(bytes: &[u8]) -> &[u8]
     ensures { result.now ≡ reverse (skip_ows (reverse bytes.now)) }
 {
-    match bytes {
-        [front @ .., b' ' | b'\t'] => trim_back(front),
-        _ => bytes,
+    let mut rest = bytes;
+    while let [front @ .., b' ' | b'\t'] = rest {
+        rest = front;
     }
+    rest
 }
 
 /// Whether two words are the same, without case.
