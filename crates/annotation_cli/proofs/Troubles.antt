@@ -1,8 +1,94 @@
 -- What is said of a trouble that does not come.
-use Rattle.std.proofs.Common.{◌≡◌, Result, Ok, Err}
-use Rattle.std.specs.Prelude.{◌≢◌, IfErr}
+use Rattle.std.proofs.Common.{◌≡◌, ℕ, List, Option, Bool, true, false, Result, Ok, Err, inl, inr, refl, sym, ap, ◌∙◌, arith}
+use Rattle.std.specs.Prelude.{◌≢◌, IfErr, IsErrOf}
+use Rattle.mark_base.specs.Streams.{TellsFault}
+use Rattle.annotation_http.specs.declared.session.Ending.{Ending}
+use Rattle.annotation_http.specs.declared.session.Ending.TheVariants as ending
+use Rattle.annotation_cli.specs.TryDesk.{ending_of}
+use Rattle.annotation_cli.specs.Troubles.{Complains, Says, status_of}
 use Rattle.annotation_cli.specs.declared.trouble.Trouble.{Trouble}
+use Rattle.annotation_cli.specs.declared.trouble.Trouble.TheVariants.{Usage, Conf, Ann, TextNotUtf8, TextTooLong, FileAbsent, FileTooLong, FileFailed, Cut, BadHead, NeedsLength, TooLarge, Encoded, Spent, ReadFault, WriteFault, Memory}
 
-pub never : {X : Type 0} (P : Type 0) (named : Trouble) (done : Result X Trouble) → IfErr done (λ trouble. trouble ≢ named) → IfErr done (λ trouble. trouble ≡ named → P)
-never P named (Ok x) told = tt
-never P named (Err trouble) told = λ e. absurd (told e)
+-- a success is no error
+pub not_err : {X : Type 0} {done : Result X Trouble} {value : X} {named : Trouble} → done ≡ Ok value → done ≡ Err named → ⊥
+not_err {X} {done} {value} {named} ok err = cc
+
+ok_err : {X : Type 0} (value : X) (named : Trouble) → ◌≡◌ {A = Result X Trouble} (Ok value) (Err named) → ⊥
+ok_err {X} value named same = cc
+
+same_trouble : {X : Type 0} (one other : Trouble) → ◌≡◌ {A = Result X Trouble} (Err one) (Err other) → one ≡ other
+same_trouble {X} one other same = cc
+
+pub never : {X : Type 0} (named : Trouble) (done : Result X Trouble) → IfErr done (λ trouble. trouble ≢ named) → IsErrOf done named → ⊥
+never {X} named (Ok value) told is = ok_err value named is
+never {X} named (Err trouble) told is = told (same_trouble {X = X} trouble named is)
+
+-- no fault was told, and none was counted
+pub tells_none : {X : Type 0} (named : Trouble) (done : Result X Trouble) (before now : ℕ) → IfErr done (λ trouble. trouble ≢ named) → now ≡ before
+    → TellsFault (IsErrOf done named) before now
+tells_none {X} named done before now told same = record { rose = λ is. absurd (never named done told is); still = λ _. same }
+
+-- ---- the status of a run that has not done its job
+
+status_some : (verifies : Bool) (why : Trouble) → status_of verifies why ≡ 0 → ⊥
+status_some true (Conf line what) is = absurd (omega (arith, is))
+status_some false (Conf line what) is = absurd (omega (arith, is))
+status_some true (Ann line what) is = absurd (omega (arith, is))
+status_some false (Ann line what) is = absurd (omega (arith, is))
+status_some verifies Usage is = absurd (omega (arith, is))
+status_some verifies TextNotUtf8 is = absurd (omega (arith, is))
+status_some verifies TextTooLong is = absurd (omega (arith, is))
+status_some verifies FileAbsent is = absurd (omega (arith, is))
+status_some verifies FileTooLong is = absurd (omega (arith, is))
+status_some verifies FileFailed is = absurd (omega (arith, is))
+status_some verifies Cut is = absurd (omega (arith, is))
+status_some verifies BadHead is = absurd (omega (arith, is))
+status_some verifies NeedsLength is = absurd (omega (arith, is))
+status_some verifies TooLarge is = absurd (omega (arith, is))
+status_some verifies Encoded is = absurd (omega (arith, is))
+status_some verifies Spent is = absurd (omega (arith, is))
+status_some verifies ReadFault is = absurd (omega (arith, is))
+status_some verifies WriteFault is = absurd (omega (arith, is))
+status_some verifies Memory is = absurd (omega (arith, is))
+
+says_some : (verifies : Bool) (why : Trouble) (old new : Option (List ℕ)) (before now status : ℕ) → Says verifies why old new before now status → status ≡ 0 → ⊥
+says_some verifies why old new before now status (inl said) is = status_some verifies why (sym said.1 ∙ is)
+says_some verifies why old new before now status (inr broken) is = absurd (omega (arith, broken.1, is))
+
+pub complains_some : (verifies : Bool) (why : Trouble) (old new : Option (List ℕ)) (before now status : ℕ) → Complains verifies why old new before now status → status ≡ 0 → ⊥
+complains_some verifies why old new before now status (inl said) is = says_some verifies why old new before now status said is
+complains_some verifies why old new before now status (inr said) is = says_some verifies Memory old new before now status said.1 is
+
+-- ---- what an ending comes to
+
+pub read_back : (end : Ending) → IsErrOf (ending_of end) ReadFault → end ≡ ending.ReadFault
+read_back ending.End is = absurd (ok_err tt _ is)
+read_back ending.Closed is = absurd (ok_err tt _ is)
+read_back ending.Cut is = cc
+read_back ending.BadHead is = cc
+read_back ending.NeedsLength is = cc
+read_back ending.TooLarge is = cc
+read_back ending.Encoded is = cc
+read_back ending.Spent is = cc
+read_back ending.ReadFault is = refl
+read_back ending.WriteFault is = cc
+read_back ending.Memory is = cc
+
+pub read_on : (end : Ending) → end ≡ ending.ReadFault → IsErrOf (ending_of end) ReadFault
+read_on end is = ap ending_of is
+
+pub write_back : (end : Ending) → IsErrOf (ending_of end) WriteFault → end ≡ ending.WriteFault
+write_back ending.End is = absurd (ok_err tt _ is)
+write_back ending.Closed is = absurd (ok_err tt _ is)
+write_back ending.Cut is = cc
+write_back ending.BadHead is = cc
+write_back ending.NeedsLength is = cc
+write_back ending.TooLarge is = cc
+write_back ending.Encoded is = cc
+write_back ending.Spent is = cc
+write_back ending.ReadFault is = cc
+write_back ending.WriteFault is = refl
+write_back ending.Memory is = cc
+
+pub write_on : (end : Ending) → end ≡ ending.WriteFault → IsErrOf (ending_of end) WriteFault
+write_on end is = ap ending_of is

@@ -90,10 +90,10 @@ status_of verifies ReadFault = 5
 status_of verifies WriteFault = 6
 status_of verifies Memory = 7
 
--- the line of a trouble was written whole, with its status, or a front of it, with the status 6 and a counted fault of the write
+-- the line of a trouble was written whole, with its status and no fault of a write, or a front of it, with the status 6 and a counted fault of the write
 abbrev pub Says : Bool → Trouble → Option (List ℕ) → Option (List ℕ) → ℕ → ℕ → ℕ → Type 0
 Says verifies trouble old new before now status =
-    (Appends old new (line_of trouble) × (status ≡ status_of verifies trouble))
+    (Appends old new (line_of trouble) × (status ≡ status_of verifies trouble) × (now ≡ before))
     ⊎ (AppendsFront old new (line_of trouble) × (status ≡ 6) × Rose before now)
 
 -- a trouble was said; a line that names a line of a file may want memory, and then that is said

@@ -1,5 +1,5 @@
 //! The line that a run writes where it does not do its job.
-ghost use Rattle.std.specs.Prelude.{◌≡◌, ◌≤◌};
+ghost use Rattle.std.specs.Prelude.{◌≡◌, ◌≤◌, Ok};
 ghost use Rattle.annotation_cli.specs.Troubles.{Complains, Ends, Says, line_of, status_of};
 
 use crate::trouble::Trouble;
@@ -32,8 +32,10 @@ fn complain<P: Sink>(alloc: Global, sink: &mut P, trouble: Trouble, verifies: bo
     }
 }
 
-/// Ends a run: says its trouble, where it has one, and gives its status.
-pub(crate) fn end_run<P: Sink>(
+/// Ends a run: says its trouble on the complaint sink, where it has one, and gives its status, which is 6 where
+/// a write of the line fails. `verifies` is for the command `verify`, whose statuses for a fault of a
+/// configuration or an .ann file are its own.
+pub fn end_run<P: Sink>(
     alloc: Global,
     sink: &mut P,
     done: Result<(), Trouble>,
@@ -41,6 +43,7 @@ pub(crate) fn end_run<P: Sink>(
 ) -> u8
     ensures told { Ends verifies done (P.held sink.old) (P.held sink.new) (P.write_faults sink.old) (P.write_faults sink.new) result }
     ensures later { P.write_faults sink.old ≤ P.write_faults sink.new }
+    ensures done { result ≡ 0 → (done ≡ Ok tt) × (P.write_faults sink.new ≡ P.write_faults sink.old) }
 {
     match done {
         Ok(()) => 0,

@@ -1,5 +1,6 @@
 //! The files of a command: a configuration, a text and an .ann file.
-ghost use Rattle.std.specs.Prelude.{◌≡◌, ◌≤◌, ℕ, List, length, chars, IfOk, IfErr};
+ghost use Rattle.std.specs.Prelude.{◌≡◌, ◌≢◌, ◌≤◌, ℕ, List, length, chars, IfOk, IfErr, IsErrOf};
+ghost use Rattle.mark_base.specs.Streams.{TellsFault};
 ghost use Rattle.annotation_cli.specs.Files.{AnnRefused, ConfRefused, FileRefused, HasAnn, HasConf, HoldsText, IsFile, TextRefused};
 
 use crate::folder::{Folder, FolderFault};
@@ -33,6 +34,9 @@ fn read_file<F: Folder>(
     ensures err { IfErr result (FileRefused (F.file folder.old name.now) limit (F.folder_faults folder.old) (F.folder_faults folder.new)) }
     ensures kept { (other : List ℕ) → F.file folder.new other ≡ F.file folder.old other }
     ensures later { F.folder_faults folder.old ≤ F.folder_faults folder.new }
+    ensures cause { TellsFault (IsErrOf result Trouble.FileFailed) (F.folder_faults folder.old) (F.folder_faults folder.new) }
+    ensures no_read { IfErr result (λ trouble. trouble ≢ Trouble.ReadFault) }
+    ensures no_write { IfErr result (λ trouble. trouble ≢ Trouble.WriteFault) }
 {
     match folder.read(alloc, name, limit) {
         Ok(bytes) => Ok(bytes),
@@ -53,6 +57,9 @@ pub(crate) fn read_conf_file<F: Folder>(
     ensures err { IfErr result (ConfRefused (F.file folder.old name.now) (F.folder_faults folder.old) (F.folder_faults folder.new)) }
     ensures kept { (other : List ℕ) → F.file folder.new other ≡ F.file folder.old other }
     ensures later { F.folder_faults folder.old ≤ F.folder_faults folder.new }
+    ensures cause { TellsFault (IsErrOf result Trouble.FileFailed) (F.folder_faults folder.old) (F.folder_faults folder.new) }
+    ensures no_read { IfErr result (λ trouble. trouble ≢ Trouble.ReadFault) }
+    ensures no_write { IfErr result (λ trouble. trouble ≢ Trouble.WriteFault) }
 {
     let bytes = read_file(alloc, folder, name, LONGEST_CONF)?;
     match read_conf(alloc, bytes.items()) {
@@ -72,6 +79,9 @@ pub(crate) fn read_text_file<F: Folder>(
     ensures err { IfErr result (TextRefused (F.file folder.old name.now) (F.folder_faults folder.old) (F.folder_faults folder.new)) }
     ensures kept { (other : List ℕ) → F.file folder.new other ≡ F.file folder.old other }
     ensures later { F.folder_faults folder.old ≤ F.folder_faults folder.new }
+    ensures cause { TellsFault (IsErrOf result Trouble.FileFailed) (F.folder_faults folder.old) (F.folder_faults folder.new) }
+    ensures no_read { IfErr result (λ trouble. trouble ≢ Trouble.ReadFault) }
+    ensures no_write { IfErr result (λ trouble. trouble ≢ Trouble.WriteFault) }
 {
     let bytes = read_file(alloc, folder, name, LONGEST_TEXT)?;
     match str::from_utf8(bytes.items()) {
@@ -97,6 +107,9 @@ pub(crate) fn read_ann_file<F: Folder>(
     ensures err { IfErr result (AnnRefused (F.file folder.old name.now) conf.now doc.now (F.folder_faults folder.old) (F.folder_faults folder.new)) }
     ensures kept { (other : List ℕ) → F.file folder.new other ≡ F.file folder.old other }
     ensures later { F.folder_faults folder.old ≤ F.folder_faults folder.new }
+    ensures cause { TellsFault (IsErrOf result Trouble.FileFailed) (F.folder_faults folder.old) (F.folder_faults folder.new) }
+    ensures no_read { IfErr result (λ trouble. trouble ≢ Trouble.ReadFault) }
+    ensures no_write { IfErr result (λ trouble. trouble ≢ Trouble.WriteFault) }
 {
     let bytes = read_file(alloc, folder, name, LONGEST_ANN)?;
     match read_ann(alloc, bytes.items(), doc, conf) {

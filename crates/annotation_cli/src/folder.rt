@@ -1,5 +1,6 @@
 //! A folder of files.
-ghost use Rattle.std.specs.Prelude.{◌≡◌, ◌≤◌, ℕ, List, Option};
+ghost use Rattle.std.specs.Prelude.{◌≡◌, ◌≤◌, ℕ, List, Option, IsErrOf};
+ghost use Rattle.mark_base.specs.Streams.{TellsFault};
 ghost use Rattle.annotation_cli.specs.Folder.{ReadTells};
 
 use mark_base::Bytes;
@@ -30,5 +31,6 @@ pub trait Folder {
     fn read(&mut self, alloc: Global, name: &str, limit: u64) -> Result<Bytes, FolderFault>
         ensures told { ReadTells (file self.old name.now) limit (folder_faults self.old) (folder_faults self.new) result }
         ensures kept { (name : List ℕ) → file self.new name ≡ file self.old name }
-        ensures later { folder_faults self.old ≤ folder_faults self.new };
+        ensures later { folder_faults self.old ≤ folder_faults self.new }
+        ensures cause { TellsFault (IsErrOf result FolderFault.Failed) (folder_faults self.old) (folder_faults self.new) };
 }

@@ -31,16 +31,12 @@ impl MemoryFolder {
 fn find_file<'f>(files: &'f [(Text, Bytes)], name: &str) -> Option<&'f Bytes>
     ensures { option_map (λ bytes. bytes.now) result ≡ file_among files.now name.now }
 {
-    match files {
-        [] => None,
-        [file, rest @ ..] => {
-            if file.0.text() == name {
-                Some(&file.1)
-            } else {
-                find_file(rest, name)
-            }
+    for file in files {
+        if file.0.text() == name {
+            return Some(&file.1);
         }
     }
+    None
 }
 
 impl Folder for MemoryFolder {

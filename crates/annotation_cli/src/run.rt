@@ -1,6 +1,6 @@
 //! The top call.
-ghost use Rattle.std.specs.Prelude.{◌≡◌, ◌⊎◌, map, string_bytes, IfErr, None};
-ghost use Rattle.mark_base.specs.Streams.{Rose};
+ghost use Rattle.std.specs.Prelude.{◌≡◌, ◌⊎◌, map, string_bytes, IsErrOf, None};
+ghost use Rattle.mark_base.specs.Streams.{Rose, TellsFault};
 ghost use Rattle.annotation_cli.specs.Asked.{try_words, verify_words};
 ghost use Rattle.annotation_cli.specs.Run.{Does, Runs, is_verify};
 
@@ -24,9 +24,9 @@ fn perform<F: Folder, C: Link>(
     ensures told { Does (F.file folder.old) (try_words (map string_bytes words.now)) (verify_words (map string_bytes words.now))
         (F.folder_faults folder.old) (F.folder_faults folder.new)
         (C.left console.old) (C.left console.new) (C.held console.old) (C.held console.new) result }
-    ensures folder { IfErr result (λ trouble. trouble ≡ Trouble.FileFailed → Rose (F.folder_faults folder.old) (F.folder_faults folder.new)) }
-    ensures read { IfErr result (λ trouble. trouble ≡ Trouble.ReadFault → Rose (C.read_faults console.old) (C.read_faults console.new)) }
-    ensures write { IfErr result (λ trouble. trouble ≡ Trouble.WriteFault → Rose (C.write_faults console.old) (C.write_faults console.new)) }
+    ensures folder { TellsFault (IsErrOf result Trouble.FileFailed) (F.folder_faults folder.old) (F.folder_faults folder.new) }
+    ensures read { TellsFault (IsErrOf result Trouble.ReadFault) (C.read_faults console.old) (C.read_faults console.new) }
+    ensures write { TellsFault (IsErrOf result Trouble.WriteFault) (C.write_faults console.old) (C.write_faults console.new) }
 {
     if let Some(files) = try_words(words) {
         return try_desk(alloc, files, folder, console);
@@ -75,6 +75,12 @@ pub fn run<F: Folder, C: Link, P: Sink>(
     ensures read { result ≡ 5 → Rose (C.read_faults world.old.console) (C.read_faults world.new.console) }
     ensures write { result ≡ 6 → Rose (C.write_faults world.old.console) (C.write_faults world.new.console)
         ⊎ Rose (P.write_faults world.old.complaint) (P.write_faults world.new.complaint) }
+
+    // Where the job was done no call of a device failed.
+    ensures done { result ≡ 0 → (F.folder_faults world.new.folder ≡ F.folder_faults world.old.folder)
+        × (C.read_faults world.new.console ≡ C.read_faults world.old.console)
+        × (C.write_faults world.new.console ≡ C.write_faults world.old.console)
+        × (P.write_faults world.new.complaint ≡ P.write_faults world.old.complaint) }
 {
     let done = perform(alloc, words, &mut world.folder, &mut world.console);
     end_run(alloc, &mut world.complaint, done, is_verify(words))

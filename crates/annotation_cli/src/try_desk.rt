@@ -1,6 +1,6 @@
 //! The command `try`: one desk on a configuration and a text, served on the console.
-ghost use Rattle.std.specs.Prelude.{◌≡◌, ◌≢◌, ◌≤◌, IfErr};
-ghost use Rattle.mark_base.specs.Streams.{Rose};
+ghost use Rattle.std.specs.Prelude.{◌≡◌, ◌≢◌, ◌≤◌, IfErr, IsErrOf};
+ghost use Rattle.mark_base.specs.Streams.{TellsFault};
 ghost use Rattle.annotation_cli.specs.TryDesk.{OpeningTold, ServedDesk, TryTold, ending_of};
 
 use crate::asked::TryFiles;
@@ -19,6 +19,9 @@ fn open_desk<F: Folder>(
 ) -> Result<FirstDesk, Trouble>
     ensures told { OpeningTold (F.file folder.old files.entry.conf.now) (F.file folder.old files.entry.text.now) (F.folder_faults folder.old) (F.folder_faults folder.new) result }
     ensures later { F.folder_faults folder.old ≤ F.folder_faults folder.new }
+    ensures cause { TellsFault (IsErrOf result Trouble.FileFailed) (F.folder_faults folder.old) (F.folder_faults folder.new) }
+    ensures no_read { IfErr result (λ trouble. trouble ≢ Trouble.ReadFault) }
+    ensures no_write { IfErr result (λ trouble. trouble ≢ Trouble.WriteFault) }
 {
     let conf = read_conf_file(alloc, folder, files.conf)?;
     let text = read_text_file(alloc, folder, files.text)?;
@@ -50,8 +53,8 @@ fn ending_of(ending: Ending) -> Result<(), Trouble>
 fn serve_desk<C: Link>(alloc: Global, desk: &mut FirstDesk, console: &mut C) -> Result<(), Trouble>
     ensures told { ServedDesk desk.old desk.new (C.left console.old) (C.left console.new) (C.held console.old) (C.held console.new) result }
     ensures folder { IfErr result (λ trouble. trouble ≢ Trouble.FileFailed) }
-    ensures read { IfErr result (λ trouble. trouble ≡ Trouble.ReadFault → Rose (C.read_faults console.old) (C.read_faults console.new)) }
-    ensures write { IfErr result (λ trouble. trouble ≡ Trouble.WriteFault → Rose (C.write_faults console.old) (C.write_faults console.new)) }
+    ensures read { TellsFault (IsErrOf result Trouble.ReadFault) (C.read_faults console.old) (C.read_faults console.new) }
+    ensures write { TellsFault (IsErrOf result Trouble.WriteFault) (C.write_faults console.old) (C.write_faults console.new) }
 {
     ending_of(serve_link(alloc, desk, console))
 }
@@ -67,9 +70,9 @@ pub(crate) fn try_desk<F: Folder, C: Link>(
         (F.folder_faults folder.old) (F.folder_faults folder.new)
         (C.left console.old) (C.left console.new) (C.held console.old) (C.held console.new) result }
     ensures later { F.folder_faults folder.old ≤ F.folder_faults folder.new }
-    ensures folder { IfErr result (λ trouble. trouble ≡ Trouble.FileFailed → Rose (F.folder_faults folder.old) (F.folder_faults folder.new)) }
-    ensures read { IfErr result (λ trouble. trouble ≡ Trouble.ReadFault → Rose (C.read_faults console.old) (C.read_faults console.new)) }
-    ensures write { IfErr result (λ trouble. trouble ≡ Trouble.WriteFault → Rose (C.write_faults console.old) (C.write_faults console.new)) }
+    ensures folder { TellsFault (IsErrOf result Trouble.FileFailed) (F.folder_faults folder.old) (F.folder_faults folder.new) }
+    ensures read { TellsFault (IsErrOf result Trouble.ReadFault) (C.read_faults console.old) (C.read_faults console.new) }
+    ensures write { TellsFault (IsErrOf result Trouble.WriteFault) (C.write_faults console.old) (C.write_faults console.new) }
 {
     let mut desk = open_desk(alloc, folder, files)?;
     serve_desk(alloc, &mut desk, console)

@@ -1,6 +1,6 @@
 //! The command `verify`: three files are read, and what the last one spells is counted.
-ghost use Rattle.std.specs.Prelude.{◌≡◌, ◌≤◌, ◌++◌, IfOk, IfErr, OnOk, string_bytes, length};
-ghost use Rattle.mark_base.specs.Streams.{OnlyWrites, Rose};
+ghost use Rattle.std.specs.Prelude.{◌≡◌, ◌≢◌, ◌≤◌, ◌++◌, IfOk, IfErr, IsErrOf, OnOk, string_bytes, length};
+ghost use Rattle.mark_base.specs.Streams.{OnlyWrites, TellsFault};
 ghost use Rattle.annotation_cli.specs.Verify.{Counts, LayerTold, VerifyTold, counted, counts_line};
 
 use crate::asked::VerifyFiles;
@@ -20,6 +20,9 @@ fn read_files<F: Folder>(
     ensures told { LayerTold (F.file folder.old files.entry.conf.now) (F.file folder.old files.entry.text.now) (F.file folder.old files.entry.ann.now)
         (F.folder_faults folder.old) (F.folder_faults folder.new) result }
     ensures later { F.folder_faults folder.old ≤ F.folder_faults folder.new }
+    ensures cause { TellsFault (IsErrOf result Trouble.FileFailed) (F.folder_faults folder.old) (F.folder_faults folder.new) }
+    ensures no_read { IfErr result (λ trouble. trouble ≢ Trouble.ReadFault) }
+    ensures no_write { IfErr result (λ trouble. trouble ≢ Trouble.WriteFault) }
 {
     let conf = read_conf_file(alloc, folder, files.conf)?;
     let text = read_text_file(alloc, folder, files.text)?;
@@ -63,7 +66,9 @@ fn counts_line(alloc: Global, layer: &Layer) -> Result<String, Memory>
 /// Writes the line of counts of a layer.
 fn tell_counts<C: Link>(alloc: Global, console: &mut C, layer: &Layer) -> Result<(), Trouble>
     ensures told { Counts layer.now (C.held console.old) (C.held console.new) result }
-    ensures cause { IfErr result (λ trouble. trouble ≡ Trouble.WriteFault → Rose (C.write_faults console.old) (C.write_faults console.new)) }
+    ensures cause { TellsFault (IsErrOf result Trouble.WriteFault) (C.write_faults console.old) (C.write_faults console.new) }
+    ensures no_read { IfErr result (λ trouble. trouble ≢ Trouble.ReadFault) }
+    ensures no_file { IfErr result (λ trouble. trouble ≢ Trouble.FileFailed) }
     ensures apart { OnlyWrites C.left C.read_faults C.write_faults console.old console.new }
 {
     let line = match counts_line(alloc, layer) {
@@ -87,9 +92,9 @@ pub(crate) fn verify<F: Folder, C: Link>(
         (F.folder_faults folder.old) (F.folder_faults folder.new) (C.held console.old) (C.held console.new) result }
     ensures apart { OnlyWrites C.left C.read_faults C.write_faults console.old console.new }
     ensures later { F.folder_faults folder.old ≤ F.folder_faults folder.new }
-    ensures folder { IfErr result (λ trouble. trouble ≡ Trouble.FileFailed → Rose (F.folder_faults folder.old) (F.folder_faults folder.new)) }
-    ensures write { IfErr result (λ trouble. trouble ≡ Trouble.WriteFault → Rose (C.write_faults console.old) (C.write_faults console.new)) }
-    ensures read { IfErr result (λ trouble. trouble ≡ Trouble.ReadFault → Rose (C.read_faults console.old) (C.read_faults console.new)) }
+    ensures folder { TellsFault (IsErrOf result Trouble.FileFailed) (F.folder_faults folder.old) (F.folder_faults folder.new) }
+    ensures write { TellsFault (IsErrOf result Trouble.WriteFault) (C.write_faults console.old) (C.write_faults console.new) }
+    ensures read { TellsFault (IsErrOf result Trouble.ReadFault) (C.read_faults console.old) (C.read_faults console.new) }
 {
     let layer = read_files(alloc, files, folder)?;
     tell_counts(alloc, console, &layer)

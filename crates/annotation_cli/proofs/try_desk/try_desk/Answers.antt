@@ -1,5 +1,6 @@
-use Rattle.std.proofs.Common.{inr}
-use Rattle.annotation_cli.proofs.Troubles.{never}
+use Rattle.std.proofs.Common.{inr, refl}
+use Rattle.annotation_cli.specs.declared.trouble.Trouble.TheVariants.{FileFailed}
+use Rattle.annotation_cli.proofs.Troubles.{not_err, tells_none}
 use Rattle.annotation_cli.proofs.try_desk.try_desk.Goals as goal
 
 pub returns-clause-told : goal.returns-clause-told
@@ -11,7 +12,7 @@ returns-clause-told g c = inr (record {
 })
 
 pub returns-clause-folder : goal.returns-clause-folder
-returns-clause-folder g c = never _ _ c.serve_desk.result c.serve_desk.ensures.folder
+returns-clause-folder g c = tells_none FileFailed c.serve_desk.result _ _ c.serve_desk.ensures.folder (c.in_ok-desk.ensures.cause.still (not_err refl))
 
 pub returns-clause-read : goal.returns-clause-read
 returns-clause-read g c = c.serve_desk.ensures.read

@@ -1,7 +1,7 @@
 //! The files of the system as a folder.
 ghost use Rattle.std.specs.Prelude.{◌≡◌, None};
 
-use crate::folder::{Folder, FolderFault};
+use annotation_cli::{Folder, FolderFault};
 use mark_base::Bytes;
 use std::alloc::Global;
 use std::fs;

@@ -1,0 +1,301 @@
+//! The headers of sections: what stands behind `-- `.
+
+/// How the lines of a section are its bytes.
+#[derive(Clone, Copy, Debug, PartialEq, Eq)]
+pub enum Form {
+    /// Each line with its LF.
+    Lines,
+    /// The lines with LF between them, and none behind the last.
+    Joined,
+    /// The lines with nothing between them, and with escapes.
+    Escaped,
+}
+
+/// A device of the world whose calls can fail by number.
+#[derive(Clone, Copy, Debug, PartialEq, Eq)]
+pub enum Device {
+    Folder,
+    Read,
+    Write,
+    Complaint,
+}
+
+/// A request: its first line and its fields. The body stands in the section.
+#[derive(Clone, Copy, Debug)]
+pub struct Ask<'f> {
+    pub method: &'f str,
+    pub target: &'f str,
+    pub caller: &'f str,
+    pub form: Form,
+    pub close: bool,
+}
+
+/// An answer: its first line and its fields. The body stands in the section.
+#[derive(Clone, Copy, Debug)]
+pub struct Answer {
+    pub status: u16,
+    pub media: &'static str,
+    pub form: Form,
+    /// The place from here on, where it is another.
+    pub place: Option<u64>,
+    pub close: bool,
+}
+
+/// What a section is.
+#[derive(Clone, Copy, Debug)]
+pub enum Header<'f> {
+    /// A file of the folder.
+    File { name: &'f str, form: Form },
+    /// What comes in on the console.
+    Input { form: Form },
+    /// What has to go out on the console.
+    Console { form: Form },
+    /// What has to be said on the complaint sink.
+    Complaint { form: Form },
+    /// The status that the run has to end with.
+    Status { status: u8 },
+    /// The numbers of the calls of a device that fail, as they are written.
+    Fails { device: Device, numbers: &'f str },
+    /// The input comes in one piece only.
+    Whole,
+    /// A request that comes in on the console.
+    Ask(Ask<'f>),
+    /// An answer that has to go out on the console.
+    Answer(Answer),
+}
+
+/// What a section is called. A case has at most one of each name, but for messages.
+#[derive(Clone, Copy, Debug, PartialEq, Eq)]
+pub enum Called<'f> {
+    File(&'f str),
+    Input,
+    Console,
+    Complaint,
+    Status,
+    Fails(Device),
+    Whole,
+    Ask,
+    Answer,
+}
+
+impl<'f> Header<'f> {
+    /// The name of the section.
+    pub fn called(&self) -> Called<'f> {
+        match self {
+            Header::File { name, .. } => Called::File(name),
+            Header::Input { .. } => Called::Input,
+            Header::Console { .. } => Called::Console,
+            Header::Complaint { .. } => Called::Complaint,
+            Header::Status { .. } => Called::Status,
+            Header::Fails { device, .. } => Called::Fails(*device),
+            Header::Whole => Called::Whole,
+            Header::Ask(_) => Called::Ask,
+            Header::Answer(_) => Called::Answer,
+        }
+    }
+
+    /// Whether lines may stand below the header.
+    pub fn takes_lines(&self) -> bool {
+        !matches!(
+            self,
+            Header::Status { .. } | Header::Fails { .. } | Header::Whole
+        )
+    }
+
+    /// Whether a case may have several such sections.
+    pub fn is_message(&self) -> bool {
+        matches!(self, Header::Ask(_) | Header::Answer(_))
+    }
+}
+
+/// The first word of a text, and what stands behind the space after it.
+pub fn split_word(text: &str) -> (&str, &str) {
+    match text.split_once(' ') {
+        Some((word, rest)) => (word, rest),
+        None => (text, ""),
+    }
+}
+
+/// Whether a text begins with this word, and what stands behind it.
+fn take_word<'f>(text: &'f str, wanted: &str) -> (bool, &'f str) {
+    let (word, rest) = split_word(text);
+    if word == wanted {
+        (true, rest)
+    } else {
+        (false, text)
+    }
+}
+
+/// The form that the words behind the name of a section say.
+fn form_of(rest: &str) -> Option<Form> {
+    match rest {
+        "" => Some(Form::Lines),
+        "escaped" => Some(Form::Escaped),
+        _ => None,
+    }
+}
+
+/// A device by its name.
+fn device_of(name: &str) -> Option<Device> {
+    match name {
+        "folder" => Some(Device::Folder),
+        "read" => Some(Device::Read),
+        "write" => Some(Device::Write),
+        "complaint" => Some(Device::Complaint),
+        _ => None,
+    }
+}
+
+/// The phrase behind a status in the first line of an answer.
+pub fn reason(status: u16) -> Option<&'static str> {
+    match status {
+        200 => Some("OK"),
+        400 => Some("Bad Request"),
+        401 => Some("Unauthorized"),
+        403 => Some("Forbidden"),
+        404 => Some("Not Found"),
+        405 => Some("Method Not Allowed"),
+        409 => Some("Conflict"),
+        411 => Some("Length Required"),
+        413 => Some("Payload Too Large"),
+        422 => Some("Unprocessable Entity"),
+        500 => Some("Internal Server Error"),
+        501 => Some("Not Implemented"),
+        503 => Some("Service Unavailable"),
+        _ => None,
+    }
+}
+
+/// Reads `METHOD TARGET [by CALLER] [text|escaped] [close]`.
+fn read_ask(rest: &str) -> Option<Ask<'_>> {
+    let (method, rest) = split_word(rest);
+    let (target, rest) = split_word(rest);
+    let (named, rest) = take_word(rest, "by");
+    let (caller, rest) = if named {
+        split_word(rest)
+    } else {
+        ("you", rest)
+    };
+    let (text, rest) = take_word(rest, "text");
+    let (escaped, rest) = take_word(rest, "escaped");
+    let (close, rest) = take_word(rest, "close");
+    let form = match (text, escaped) {
+        (true, true) => return None,
+        (true, false) => Form::Lines,
+        (false, true) => Form::Escaped,
+        (false, false) => Form::Joined,
+    };
+    if method.is_empty() || target.is_empty() || caller.is_empty() || !rest.is_empty() {
+        return None;
+    }
+    Some(Ask {
+        method,
+        target,
+        caller,
+        form,
+        close,
+    })
+}
+
+/// What the body of an answer is: its media type and its form, and what stands behind the word for it.
+#[derive(Clone, Copy, Debug)]
+struct Body<'f> {
+    media: &'static str,
+    form: Form,
+    rest: &'f str,
+}
+
+/// Reads `[text|csv|escaped-text]`.
+fn read_body(text: &str) -> Body<'_> {
+    let (word, rest) = split_word(text);
+    match word {
+        "text" => Body {
+            media: "text/plain; charset=utf-8",
+            form: Form::Lines,
+            rest,
+        },
+        "csv" => Body {
+            media: "text/csv; charset=utf-8",
+            form: Form::Lines,
+            rest,
+        },
+        "escaped-text" => Body {
+            media: "text/plain; charset=utf-8",
+            form: Form::Escaped,
+            rest,
+        },
+        _ => Body {
+            media: "application/json",
+            form: Form::Joined,
+            rest: text,
+        },
+    }
+}
+
+/// Reads `STATUS [text|csv|escaped-text] [place N] [close]`.
+fn read_answer(rest: &str) -> Option<Answer> {
+    let (status, rest) = split_word(rest);
+    let status = status.parse::<u16>().ok()?;
+    let _ = reason(status)?;
+    let body = read_body(rest);
+    let (placed, rest) = take_word(body.rest, "place");
+    let (place, rest) = if placed {
+        let (number, rest) = split_word(rest);
+        (Some(number.parse::<u64>().ok()?), rest)
+    } else {
+        (None, rest)
+    };
+    let (close, rest) = take_word(rest, "close");
+    if !rest.is_empty() {
+        return None;
+    }
+    Some(Answer {
+        status,
+        media: body.media,
+        form: body.form,
+        place,
+        close,
+    })
+}
+
+/// Reads `KIND N[ N..]`; the numbers are read when they are used.
+fn read_fails(rest: &str) -> Option<Header<'_>> {
+    let (device, numbers) = split_word(rest);
+    let device = device_of(device)?;
+    if numbers
+        .split(' ')
+        .all(|number| number.parse::<u64>().is_ok())
+    {
+        Some(Header::Fails { device, numbers })
+    } else {
+        None
+    }
+}
+
+/// Reads a header, without the `-- ` before it.
+pub fn read_header(header: &str) -> Option<Header<'_>> {
+    let (first, rest) = split_word(header);
+    match first {
+        "" => None,
+        "input" => Some(Header::Input {
+            form: form_of(rest)?,
+        }),
+        "console" => Some(Header::Console {
+            form: form_of(rest)?,
+        }),
+        "complaint" => Some(Header::Complaint {
+            form: form_of(rest)?,
+        }),
+        "status" => Some(Header::Status {
+            status: rest.parse::<u8>().ok()?,
+        }),
+        "fails" => read_fails(rest),
+        "whole" if rest.is_empty() => Some(Header::Whole),
+        "ask" => Some(Header::Ask(read_ask(rest)?)),
+        "answer" => Some(Header::Answer(read_answer(rest)?)),
+        name => Some(Header::File {
+            name,
+            form: form_of(rest)?,
+        }),
+    }
+}
