@@ -1,5 +1,5 @@
 -- How one write follows another.
-use Rattle.std.proofs.Common.{◌≡◌, ℕ, ◌+◌, ◌-◌, ◌<◌, ◌≤◌, min, List, [], ◌++◌, Option, length, take, drop, sym, arith, length-drop}
+use Rattle.std.proofs.Common.{◌≡◌, ℕ, ◌+◌, ◌-◌, ◌<◌, ◌≤◌, min, Bool, true, false, nat_lt, List, [], ◌++◌, Option, length, take, drop, refl, sym, ◌∙◌, ap, arith, length-drop}
 use Rattle.std.proofs.lemmas.List.{drop-drop, drop_all, take-append-drop, take_rest}
 use Rattle.std.proofs.lemmas.Grind.{common_steps}
 use Rattle.std.proofs.Math.Seq.{take-add}
@@ -34,3 +34,21 @@ taken_none taken count most bytes old within some room size none =
     let whole : length (take (length bytes - taken) (drop taken bytes)) ≡ length bytes - taken = rw (take_rest bytes taken) (grind (arith, length-drop)) in
     let all : length bytes ≤ taken + count = grind (arith, whole, size, none, some, room, within) in
     drop_all (taken + count) bytes all
+
+-- the sizes behind the next one, where the place stands still at the last value of its type
+pub sizes_after : (sizes : List ℕ) (place next : ℕ) → length sizes ≤ 18446744073709551615 → next ≡ min (place + 1) 18446744073709551615
+    → drop next sizes ≡ drop 1 (drop place sizes)
+sizes_after sizes place next few is = go (nat_lt place 18446744073709551615) refl ∙ sym (drop-drop 1 place sizes)
+  where
+    go : (b : Bool) → nat_lt place 18446744073709551615 ≡ b → drop next sizes ≡ drop (place + 1) sizes
+    go true e = let same : next ≡ place + 1 = grind arith in ap (λ n. drop n sizes) same
+    go false e =
+        let last : length sizes ≤ next = grind arith in
+        let past : length sizes ≤ place + 1 = grind arith in
+        drop_all next sizes last ∙ sym (drop_all (place + 1) sizes past)
+
+-- a read gives what the size, the bytes that are left and the room allow
+pub given_count : (taken count most size room : ℕ) (bytes : List ℕ) → count ≡ min most (min (length (take (length bytes - taken) (drop taken bytes))) room) → most ≡ size
+    → count ≡ min size (min (length (drop taken bytes)) room)
+given_count taken count most size room bytes is same =
+    is ∙ ap (λ n. min n (min (length (take (length bytes - taken) (drop taken bytes))) room)) same ∙ ap (λ xs. min size (min (length xs) room)) (take_rest bytes taken)

@@ -13,6 +13,10 @@ pub record HasCause {T E : Type 0} (before now : ℕ) (result : Result T E) : Ty
   pub failed : OnErr result (Rose before now)
   pub still : OnOk result (now ≡ before)
 
+-- one call failed, and no more than one
+abbrev pub CountsOne : ℕ → ℕ → Type 0
+CountsOne before now = now ≡ min (before + 1) (2 ^ 64 - 1)
+
 -- the same of an ending that may be a fault: where it is one the count rose, and otherwise it stands as before
 pub record TellsFault (fault : Type 0) (before now : ℕ) : Type 0 where
   pub rose : fault → Rose before now

@@ -81,8 +81,17 @@ pub struct AnnId {
 }
 
 impl AnnId {
+    ghost use Rattle.mark_base.specs.IdOrder.{id_cmp};
+
     /// The greatest number of an ID.
     pub const GREATEST: u32 = 999_999_999;
+
+    /// IDs are ordered by sort, as the variants of [`Kind`] stand, and then by number.
+    pub fn keeps_order(self, other: AnnId)
+        ensures { ⟦<AnnId as Ord>⟧.cmp self other ≡ id_cmp self other }
+    {
+        let _ = (self, other);
+    }
 
     /// The ID of this sort and number.
     pub fn new(kind: Kind, number: u32) -> Option<AnnId>

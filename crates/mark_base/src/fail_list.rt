@@ -1,7 +1,7 @@
 //! Which calls of a device in memory fail.
 ghost use Rattle.std.specs.Prelude.{◌≡◌, ◌≤◌, false, true};
 ghost use Rattle.mark_base.specs.FailList.{CountsCall, FailState, IsFaultless};
-ghost use Rattle.mark_base.specs.Streams.{Rose};
+ghost use Rattle.mark_base.specs.Streams.{CountsOne, Rose};
 
 use std::marker::Model;
 
@@ -58,6 +58,7 @@ impl FailList {
     /// Counts a fault that no number of the list made, as a growth that was refused.
     pub fn count_fault(&mut self)
         ensures rose { Rose self.old.faults self.new.faults }
+        ensures one { CountsOne self.old.faults self.new.faults }
         ensures rises { self.old.faults ≤ self.new.faults }
         ensures same { self.new ≡ record self.old { faults = self.new.faults } }
     {

@@ -1,5 +1,9 @@
 //! A link in memory, whose calls fail by number.
-ghost use Rattle.std.specs.Prelude.{◌≡◌, ◌<◌, All, None, Some, [], drop};
+ghost use Rattle.std.specs.Prelude.{◌≡◌, ◌<◌, All, IfOk, None, OnErr, Some, [], drop, length};
+ghost use Rattle.std.specs.Io.{ReadsAtMost, WritesAtMost};
+ghost use Rattle.std.specs.Io.KnownBytes.{ReadConsumes, WriteAppends};
+ghost use Rattle.mark_base.specs.MemoryStreams.{ReadsOnce, WritesOnce, fails_of_reads, fails_of_writes, sink_of, sizes_of, source_of};
+ghost use Rattle.mark_base.specs.Streams.{CountsOne, HasCause};
 
 use crate::{Bytes, Failed, Link, MemorySink, MemorySource, Sink, Source};
 use std::alloc::Global;
@@ -18,6 +22,9 @@ impl MemoryLink {
         ensures held { ⟦<MemoryLink as Sink>⟧.held result ≡ Some [] }
         ensures read_faults { ⟦<MemoryLink as Source>⟧.read_faults result ≡ 0 }
         ensures write_faults { ⟦<MemoryLink as Sink>⟧.write_faults result ≡ 0 }
+        ensures reads { fails_of_reads (source_of result) ≡ record { fails = read_fails.items; calls = 0; faults = 0 } }
+        ensures sizes { sizes_of (source_of result) ≡ [] }
+        ensures writes { fails_of_writes (sink_of result) ≡ record { fails = write_fails.items; calls = 0; faults = 0 } }
     {
         MemoryLink {
             source: MemorySource::new(alloc, bytes, read_fails),
@@ -33,6 +40,9 @@ impl MemoryLink {
         ensures held { ⟦<MemoryLink as Sink>⟧.held result ≡ Some [] }
         ensures read_faults { ⟦<MemoryLink as Source>⟧.read_faults result ≡ 0 }
         ensures write_faults { ⟦<MemoryLink as Sink>⟧.write_faults result ≡ 0 }
+        ensures reads { fails_of_reads (source_of result) ≡ record { fails = []; calls = 0; faults = 0 } }
+        ensures sizes { sizes_of (source_of result) ≡ sizes.items }
+        ensures writes { fails_of_writes (sink_of result) ≡ record { fails = []; calls = 0; faults = 0 } }
     {
         MemoryLink {
             source: MemorySource::cut_into(alloc, bytes, sizes),
@@ -55,7 +65,14 @@ impl Source for MemoryLink {
 
     ghost kept_by_read = { λ link. (⟦<MemorySink as Sink>⟧.held link.sink, ⟦<MemorySink as Sink>⟧.write_faults link.sink) };
 
-    fn read(&mut self, room: &mut [u8]) -> Result<usize, Failed> {
+    fn read(&mut self, room: &mut [u8]) -> Result<usize, Failed>
+        ensures bound { ReadsAtMost result room.new }
+        ensures bytes { ReadConsumes (⟦<MemoryLink as Source>⟧.left self.old) (⟦<MemoryLink as Source>⟧.left self.new) result room.new }
+        ensures cause { HasCause (⟦<MemoryLink as Source>⟧.read_faults self.old) (⟦<MemoryLink as Source>⟧.read_faults self.new) result }
+        ensures once { OnErr result (CountsOne (⟦<MemoryLink as Source>⟧.read_faults self.old) (⟦<MemoryLink as Source>⟧.read_faults self.new)) }
+        ensures kept { ⟦<MemoryLink as Source>⟧.kept_by_read self.new ≡ ⟦<MemoryLink as Source>⟧.kept_by_read self.old }
+        ensures listed { ReadsOnce (source_of self.old) (source_of self.new) (length room.old) result }
+    {
         self.source.read(room)
     }
 }
@@ -67,7 +84,15 @@ impl Sink for MemoryLink {
 
     ghost kept_by_write = { λ link. (⟦<MemorySource as Source>⟧.left link.source, ⟦<MemorySource as Source>⟧.read_faults link.source) };
 
-    fn write(&mut self, piece: &[u8]) -> Result<usize, Failed> {
+    fn write(&mut self, piece: &[u8]) -> Result<usize, Failed>
+        ensures bound { WritesAtMost result piece.now }
+        ensures progress { IfOk result (λ count. 0 < length piece.now → 0 < count) }
+        ensures bytes { WriteAppends (⟦<MemoryLink as Sink>⟧.held self.old) (⟦<MemoryLink as Sink>⟧.held self.new) result piece.now }
+        ensures cause { HasCause (⟦<MemoryLink as Sink>⟧.write_faults self.old) (⟦<MemoryLink as Sink>⟧.write_faults self.new) result }
+        ensures once { OnErr result (CountsOne (⟦<MemoryLink as Sink>⟧.write_faults self.old) (⟦<MemoryLink as Sink>⟧.write_faults self.new)) }
+        ensures kept { ⟦<MemoryLink as Sink>⟧.kept_by_write self.new ≡ ⟦<MemoryLink as Sink>⟧.kept_by_write self.old }
+        ensures listed { WritesOnce (sink_of self.old) (sink_of self.new) (length piece.now) result }
+    {
         self.sink.write(piece)
     }
 }

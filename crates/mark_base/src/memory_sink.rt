@@ -1,5 +1,9 @@
 //! A sink in memory, whose calls fail by number.
-ghost use Rattle.std.specs.Prelude.{◌≡◌, None, Some, []};
+ghost use Rattle.std.specs.Prelude.{◌≡◌, ◌<◌, IfOk, None, OnErr, Some, [], length};
+ghost use Rattle.std.specs.Io.{WritesAtMost};
+ghost use Rattle.std.specs.Io.KnownBytes.{WriteAppends};
+ghost use Rattle.mark_base.specs.MemoryStreams.{WritesOnce, fails_of_writes};
+ghost use Rattle.mark_base.specs.Streams.{CountsOne, HasCause};
 
 use crate::{FailList, Failed, Sink};
 use std::alloc::Global;
@@ -17,6 +21,7 @@ impl MemorySink {
     pub fn new(alloc: Global, fails: Vec<u64>) -> Self
         ensures held { ⟦<MemorySink as Sink>⟧.held result ≡ Some [] }
         ensures faults { ⟦<MemorySink as Sink>⟧.write_faults result ≡ 0 }
+        ensures fails { fails_of_writes result ≡ record { fails = fails.items; calls = 0; faults = 0 } }
     {
         MemorySink {
             written: Vec::new(alloc),
@@ -39,7 +44,15 @@ impl Sink for MemorySink {
 
     ghost kept_by_write = { λ sink. (None, 0) };
 
-    fn write(&mut self, piece: &[u8]) -> Result<usize, Failed> {
+    fn write(&mut self, piece: &[u8]) -> Result<usize, Failed>
+        ensures bound { WritesAtMost result piece.now }
+        ensures progress { IfOk result (λ count. 0 < length piece.now → 0 < count) }
+        ensures bytes { WriteAppends (⟦<MemorySink as Sink>⟧.held self.old) (⟦<MemorySink as Sink>⟧.held self.new) result piece.now }
+        ensures cause { HasCause (⟦<MemorySink as Sink>⟧.write_faults self.old) (⟦<MemorySink as Sink>⟧.write_faults self.new) result }
+        ensures once { OnErr result (CountsOne (⟦<MemorySink as Sink>⟧.write_faults self.old) (⟦<MemorySink as Sink>⟧.write_faults self.new)) }
+        ensures kept { ⟦<MemorySink as Sink>⟧.kept_by_write self.new ≡ ⟦<MemorySink as Sink>⟧.kept_by_write self.old }
+        ensures listed { WritesOnce self.old self.new (length piece.now) result }
+    {
         if self.fails.fails() {
             return Err(Failed);
         }

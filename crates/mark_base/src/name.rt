@@ -11,6 +11,9 @@ use std::alloc::{AllocError, Global};
 use std::cmp::Ordering;
 use std::marker::Model;
 
+/// The characters of the longest name and of the longest slug.
+const LONGEST: usize = 64;
+
 /// Why a text is no name or no slug.
 #[derive(Clone, Copy, Debug, PartialEq, Eq)]
 pub enum NameFault {
@@ -91,7 +94,7 @@ pub fn spelling_fault(text: &str, bad: Option<usize>) -> Option<NameFault>
     if count == 0 {
         return Some(NameFault::Empty);
     }
-    if count > 64 {
+    if count > LONGEST {
         return Some(NameFault::TooLong);
     }
     match bad {
