@@ -9,6 +9,9 @@ use mark_base::{Frag, Memory, Text};
 use std::alloc::{AllocError, Global};
 use std::marker::Model;
 
+/// The characters of the longest text.
+const LONGEST_TEXT: usize = 200_000;
+
 /// Why a text is no document.
 #[derive(Clone, Copy, Debug, PartialEq, Eq)]
 pub enum DocFault {
@@ -115,7 +118,7 @@ impl Doc {
         ensures long { IfErr result (λ fault. fault ≡ DocFault.TooLong → 200000 < length (chars text.now)) }
     {
         let count = char_count(text);
-        if count > 200_000 {
+        if count > LONGEST_TEXT {
             return Err(DocFault::TooLong);
         }
         let marks = checkpoints(alloc, text)?;

@@ -29,11 +29,14 @@ pub fn find_value<'b>(buf: &'b [u8], fields: &[HeaderSpan], name: &[u8]) -> Opti
     None
 }
 
+/// The digits of the longest value of Content-Length.
+const MOST_DIGITS: usize = 18;
+
 /// The number that a value of Content-Length writes, where it has 1 to 18 digits and nothing else.
 pub fn read_length(value: &[u8]) -> Option<u64>
     ensures { result ≡ (if is_length value.now then Some (digits_value 10 value.now) else None) }
 {
-    if value.is_empty() || value.len() > 18 {
+    if value.is_empty() || value.len() > MOST_DIGITS {
         return None;
     }
     let mut number: u64 = 0;

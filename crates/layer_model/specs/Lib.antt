@@ -4,6 +4,7 @@ pub mod Coherent
 pub mod IdSets
 pub mod Layers
 pub mod Numbers
+pub mod RuleNames
 pub mod Rules
 pub mod Snapshots
 pub mod Span

@@ -1,5 +1,6 @@
 //! The rules that a command or a layer may break.
 ghost use Rattle.std.specs.Prelude.{◌≡◌};
+ghost use Rattle.layer_model.specs.RuleNames.{rule_name};
 ghost use Rattle.layer_model.specs.Rules.{number_of};
 
 use mark_base::{AnnId, Kind, RelId, TypeId};
@@ -108,6 +109,41 @@ impl Rule {
             Rule::DeskFull => 25,
             Rule::NothingToUndo => 26,
             Rule::NothingToRedo => 27,
+        }
+    }
+
+    /// The name of the rule, without what it names.
+    pub fn name(self) -> &'static str
+        ensures { result.now ≡ rule_name self }
+    {
+        match self {
+            Rule::UnknownType => "UnknownType",
+            Rule::NotForUse => "NotForUse",
+            Rule::BadFragments => "BadFragments",
+            Rule::OutOfText => "OutOfText",
+            Rule::SpanTooLong => "SpanTooLong",
+            Rule::NoSuch(_) => "NoSuch",
+            Rule::WrongKind(_) => "WrongKind",
+            Rule::UnknownRole => "UnknownRole",
+            Rule::ArgumentType(_) => "ArgumentType",
+            Rule::TooMany(_) => "TooMany",
+            Rule::NoSuchArgument => "NoSuchArgument",
+            Rule::UnknownValue => "UnknownValue",
+            Rule::TooDeep => "TooDeep",
+            Rule::SameSpan(_) => "SameSpan",
+            Rule::SameEvent(_) => "SameEvent",
+            Rule::SameRelation(_) => "SameRelation",
+            Rule::AttributeThere(_) => "AttributeThere",
+            Rule::EquivMembers => "EquivMembers",
+            Rule::OverlapRefused(_) => "OverlapRefused",
+            Rule::InUse(_) => "InUse",
+            Rule::BadText => "BadText",
+            Rule::LayerFull(_) => "LayerFull",
+            Rule::IdsUsedUp(_) => "IdsUsedUp",
+            Rule::TooFew(_, _) => "TooFew",
+            Rule::DeskFull => "DeskFull",
+            Rule::NothingToUndo => "NothingToUndo",
+            Rule::NothingToRedo => "NothingToRedo",
         }
     }
 }

@@ -11,6 +11,12 @@ use std::alloc::Global;
 use std::collections::BTreeMap;
 use std::marker::Model;
 
+/// The rows of the largest tree.
+const MOST_TYPES: usize = 256;
+
+/// The types that annotations may have, in a tree that has the most of them.
+const MOST_USABLE: usize = 63;
+
 /// A tree of at most 256 types. Contracts see it as the list of its rows.
 #[derive(Drop)]
 pub struct Types {
@@ -74,7 +80,7 @@ fn bad_parent(rows: &[TypeRow]) -> Option<u16>
 fn are_too_many(rows: &[TypeRow]) -> bool
     ensures { result ≡ are_too_many rows.now }
 {
-    rows.len() > 256 || rows.iter().filter(|row| row.usable).count() > 63
+    rows.len() > MOST_TYPES || rows.iter().filter(|row| row.usable).count() > MOST_USABLE
 }
 
 /// Whether a type is another or a descendant of it.
