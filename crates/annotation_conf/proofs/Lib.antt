@@ -1,5 +1,6 @@
 mod BuildHeld
 mod BuildLaws
+mod BuildNamed
 mod BuildOrder
 mod BuildRows
 mod BuildTables
@@ -52,6 +53,7 @@ mod SoundTypesAgain
 mod SoundTypesClean
 mod SoundUntold
 mod SoundWords
+mod WordLemmas
 pub mod Written
 pub mod WrittenBreaks
 pub mod WrittenChoices

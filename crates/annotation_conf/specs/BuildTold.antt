@@ -1,9 +1,10 @@
 -- What lines say by the values that are kept of them (private calls only).
-use Rattle.std.specs.Prelude.{◌≡◌, ℕ, ◌-◌, Option, None, Ok, option_map, ◌&&◌, ◌==◌, Bool, true, not, List, [], ◌∷◌, map, filter, bytes_eq, codes, if◌then◌else◌}
+use Rattle.std.specs.Prelude.{◌≡◌, ℕ, ◌-◌, ◌<◌, length, All, Option, None, Ok, option_map, ◌&&◌, ◌==◌, Bool, true, not, List, [], ◌∷◌, map, filter, bytes_eq, codes, if◌then◌else◌}
 use Rattle.std.specs.List.{list_any, slice_split}
 use Rattle.annotation_conf.specs.declared.pieces.Alternative.{Alternative as AlternativeValue}
 use Rattle.annotation_conf.specs.declared.pieces.RolePair.{RolePair as RolePairValue}
 use Rattle.annotation_conf.specs.declared.pieces.KeyedPair.{KeyedPair as KeyedPairValue}
+use Rattle.mark_base.specs.Names.{name_fault}
 use Rattle.mark_base.specs.declared.places.TypeId.{TypeId}
 use Rattle.std.specs.BTreeMap.{BTreeMap, get}
 use Rattle.std.specs.Ordering.{nat_cmp}
@@ -87,3 +88,30 @@ parent_by places depth = if depth == 0 then None else option_map (λ place. reco
 pub record IsFaultless (text : List ℕ) (file : File) : Type 0 where
   pub same : file ≡ file_of text
   pub says : conf_of text ≡ Ok (configuration_of file)
+
+-- the name of a type line is one
+abbrev pub IsTypeNamed : TypeLineValue → Type 0
+IsTypeNamed line = name_fault line.name ≡ None
+
+-- the roles of pairs are names
+abbrev pub AreRolesNamed : List RolePairValue → Type 0
+AreRolesNamed pairs = All (λ pair. name_fault pair.role ≡ None) pairs
+
+-- the roles of an event type are names
+abbrev pub HasRolesNamed : TypeLineValue → Type 0
+HasRolesNamed line = AreRolesNamed line.pieces.pairs.items
+
+-- alternatives are spelt as names
+abbrev pub AreWordsNamed : List AlternativeValue → Type 0
+AreWordsNamed alternatives = All (λ one. name_fault (word_of (seen_alternative one)) ≡ None) alternatives
+
+-- the name of an attribute and its values are names
+pub record IsAttributeNamed (line : NamedLineValue) : Type 0 where
+  pub name : name_fault line.name ≡ None
+  pub values : AreWordsNamed (first_values line.pieces.pairs.items)
+
+-- the name of a relation type and its two roles are names
+pub record IsRelationNamed (line : NamedLineValue) : Type 0 where
+  pub name : name_fault line.name ≡ None
+  pub two : 1 < length line.pieces.pairs.items
+  pub roles : AreRolesNamed line.pieces.pairs.items

@@ -1,5 +1,6 @@
 pub mod BuildPlaces
 pub mod BuildTold
+pub mod ConfFaultNames
 pub mod ConfFaults
 pub mod ConfLines
 pub mod ConfNames

@@ -14,10 +14,12 @@ use std::alloc::Global;
 use type_hierarchy::TypeRow;
 
 /// The rows of the types.
-fn all_rows(alloc: Global, resolver: &Resolver) -> Result<Vec<TypeRow>, Memory>
+fn all_rows(alloc: Global, text: &str, resolver: &Resolver) -> Result<Vec<TypeRow>, Memory>
+    requires { IsFaultless text.now resolver.now }
     ensures rows { IfOk result (λ rows. rows.items ≡ (configuration_of resolver.now).types) }
     ensures few { IfOk result (λ rows. length rows.items ≤ 256) }
 {
+    let _text = text;
     let file = resolver.names().file();
     let entities = type_rows(alloc, Vec::new(alloc), false, &file.entities)?;
     let all = type_rows(alloc, entities, true, &file.events)?;
@@ -25,17 +27,25 @@ fn all_rows(alloc: Global, resolver: &Resolver) -> Result<Vec<TypeRow>, Memory>
 }
 
 /// The roles of the types.
-fn all_roles(alloc: Global, resolver: &Resolver) -> Result<Vec<Roles>, Memory>
+fn all_roles(alloc: Global, text: &str, resolver: &Resolver) -> Result<Vec<Roles>, Memory>
+    requires { IsFaultless text.now resolver.now }
     ensures { IfOk result (λ rows. rows.items ≡ (configuration_of resolver.now).roles) }
 {
+    let _text = text;
     let file = resolver.names().file();
     roles_of_types(alloc, resolver, &file.entities, &file.events)
 }
 
 /// The relation types.
-fn all_relations(alloc: Global, resolver: &Resolver) -> Result<Vec<RelationType>, Memory>
+fn all_relations(
+    alloc: Global,
+    text: &str,
+    resolver: &Resolver,
+) -> Result<Vec<RelationType>, Memory>
+    requires { IsFaultless text.now resolver.now }
     ensures { IfOk result (λ rows. rows.items ≡ (configuration_of resolver.now).relations) }
 {
+    let _text = text;
     relations(alloc, resolver, &resolver.names().file().relations)
 }
 
@@ -64,9 +74,10 @@ fn build_by(alloc: Global, text: &str, resolver: &Resolver) -> Result<Conf, Memo
     requires { IsFaultless text.now resolver.now }
     ensures { IfOk result (λ conf. conf ≡ configuration_of resolver.now) }
 {
-    let types = tree_of(alloc, all_rows(alloc, resolver)?)?;
-    let roles = all_roles(alloc, resolver)?;
-    let relations = all_relations(alloc, resolver)?;
+    let rows = all_rows(alloc, text, resolver)?;
+    let types = tree_of(alloc, rows)?;
+    let roles = all_roles(alloc, text, resolver)?;
+    let relations = all_relations(alloc, text, resolver)?;
     let attributes = all_attributes(alloc, text, resolver)?;
     let overlaps = all_overlaps(alloc, resolver)?;
     Ok(Conf::of(types, roles, relations, attributes, overlaps))

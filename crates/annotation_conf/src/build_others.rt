@@ -1,10 +1,10 @@
 //! Overlap lines, attributes and relation types.
-ghost use Rattle.std.specs.Prelude.{◌≡◌, ◌==◌, map, filter, IfOk, bytes_eq};
+ghost use Rattle.std.specs.Prelude.{◌≡◌, ◌<◌, ◌==◌, All, length, map, filter, IfOk, bytes_eq};
 ghost use Rattle.std.specs.List.{list_any, slice_split};
 ghost use Rattle.annotation_conf.specs.ConfFaults.{word_of, is_among};
 ghost use Rattle.annotation_conf.specs.ConfOf.{role_at};
 ghost use Rattle.annotation_conf.specs.FileShows.{seen_alternative, seen_pair};
-ghost use Rattle.annotation_conf.specs.BuildTold.{has_kind_told, overlap_kept, first_targets, first_values, attribute_kept, arguments_kept, relation_kept, firsts_kept};
+ghost use Rattle.annotation_conf.specs.BuildTold.{has_kind_told, overlap_kept, first_targets, first_values, attribute_kept, arguments_kept, relation_kept, firsts_kept, AreRolesNamed, AreWordsNamed, IsAttributeNamed, IsRelationNamed};
 
 use crate::build_resolver::Resolver;
 use crate::build_roles::{arguments, name_of};
@@ -121,6 +121,7 @@ fn values_of(pairs: &[RolePair]) -> &[Alternative]
 
 /// The names of alternatives.
 fn names_of(alloc: Global, alternatives: &[Alternative]) -> Result<Values, Memory>
+    requires { AreWordsNamed alternatives.now }
     ensures { IfOk result (λ names. names ≡ map (λ one. word_of (seen_alternative one)) alternatives.now) }
 {
     let mut names = Vec::new(alloc);
@@ -132,6 +133,7 @@ fn names_of(alloc: Global, alternatives: &[Alternative]) -> Result<Values, Memor
 
 /// An attribute.
 fn attribute(alloc: Global, resolver: &Resolver, line: &NamedLine) -> Result<AttributeType, Memory>
+    requires { IsAttributeNamed line.now }
     ensures { IfOk result (λ attribute. attribute ≡ attribute_kept resolver.now line.now) }
 {
     let pairs = line.pieces.pairs.as_slice();
@@ -148,6 +150,7 @@ pub fn attributes(
     resolver: &Resolver,
     lines: &[NamedLine],
 ) -> Result<Vec<AttributeType>, Memory>
+    requires { All IsAttributeNamed lines.now }
     ensures { IfOk result (λ rows. rows.items ≡ map (attribute_kept resolver.now) lines.now) }
 {
     let mut rows = Vec::new(alloc);
@@ -159,13 +162,11 @@ pub fn attributes(
 
 /// The role of a place.
 fn role_at(alloc: Global, pairs: &[RolePair], place: usize) -> Result<Name, Memory>
+    requires within { place < length pairs.now }
+    requires named { AreRolesNamed pairs.now }
     ensures { IfOk result (λ name. name ≡ role_at (map seen_pair pairs.now) place) }
 {
-    if place < pairs.len() {
-        name_of(alloc, pairs[place].role.text())
-    } else {
-        name_of(alloc, "")
-    }
+    name_of(alloc, pairs[place].role.text())
 }
 
 /// The arguments of the lines of a name.
@@ -193,6 +194,7 @@ fn relation(
     lines: &[NamedLine],
     line: &NamedLine,
 ) -> Result<RelationType, Memory>
+    requires { IsRelationNamed line.now }
     ensures { IfOk result (λ relation. relation ≡ relation_kept resolver.now lines.now line.now) }
 {
     let pairs = line.pieces.pairs.as_slice();
@@ -211,6 +213,7 @@ pub fn relations(
     resolver: &Resolver,
     lines: &[NamedLine],
 ) -> Result<Vec<RelationType>, Memory>
+    requires { All IsRelationNamed lines.now }
     ensures { IfOk result (λ rows. rows.items ≡ map (relation_kept resolver.now lines.now) (firsts_kept resolver.now lines.now)) }
 {
     let mut rows = Vec::new(alloc);

@@ -1,26 +1,31 @@
 //! The roles of event types and the arguments of relation types.
-ghost use Rattle.std.specs.Prelude.{◌≡◌, ◌++◌, [], map, IfOk, unwrap_or};
+ghost use Rattle.std.specs.Prelude.{◌≡◌, ◌++◌, [], None, All, map, IfOk, unwrap_or};
+ghost use Rattle.mark_base.specs.Names.{name_fault};
 ghost use Rattle.annotation_conf.specs.ConfPairs.{count_of};
 ghost use Rattle.annotation_conf.specs.ConfOf.{role_of, arguments_of};
 ghost use Rattle.annotation_conf.specs.FileShows.{seen_pair};
 ghost use Rattle.annotation_conf.specs.CountShows.{seen_count};
-ghost use Rattle.annotation_conf.specs.BuildTold.{roles_kept};
+ghost use Rattle.annotation_conf.specs.BuildTold.{roles_kept, AreRolesNamed, HasRolesNamed};
 
 use crate::build_resolver::Resolver;
 use crate::count::{Count, count_of};
 use crate::file::TypeLine;
 use crate::pieces::RolePair;
 use crate::{Arguments, Role, Roles};
-use mark_base::{Memory, Name};
+use mark_base::{Memory, Name, NameFault};
 use std::alloc::Global;
 
 /// The name of a text that is one, as each is in a file without fault.
 pub fn name_of(alloc: Global, text: &str) -> Result<Name, Memory>
+    requires { name_fault text.now ≡ None }
     ensures { IfOk result (λ name. name ≡ text.now) }
 {
     match Name::new(alloc, text) {
         Ok(name) => Ok(name),
-        Err(_) => Err(Memory),
+        Err(NameFault::Memory) => Err(Memory),
+        Err(NameFault::Empty) => unreachable!(),
+        Err(NameFault::TooLong) => unreachable!(),
+        Err(NameFault::BadChar(_)) => unreachable!(),
     }
 }
 
@@ -36,6 +41,7 @@ fn count_or_one(mark: &[char]) -> Count
 
 /// A role of an event type.
 fn role(alloc: Global, resolver: &Resolver, pair: &RolePair) -> Result<Role, Memory>
+    requires { name_fault pair.now.role ≡ None }
     ensures { IfOk result (λ role. role ≡ role_of resolver.now (seen_pair pair.now)) }
 {
     let count = count_or_one(&pair.mark);
@@ -50,6 +56,7 @@ fn role(alloc: Global, resolver: &Resolver, pair: &RolePair) -> Result<Role, Mem
 
 /// The roles of an event type.
 fn roles(alloc: Global, resolver: &Resolver, pairs: &[RolePair]) -> Result<Roles, Memory>
+    requires { AreRolesNamed pairs.now }
     ensures { IfOk result (λ roles. roles ≡ map (λ pair. role_of resolver.now (seen_pair pair)) pairs.now) }
 {
     let mut roles = Vec::new(alloc);
@@ -73,6 +80,7 @@ fn no_roles(alloc: Global, lines: &[TypeLine]) -> Result<Vec<Roles>, Memory>
 /// The roles of an event type by its line.
 #[tactic(auto, unfolding(crate::specs::BuildTold::roles_kept))]
 fn line_roles(alloc: Global, resolver: &Resolver, line: &TypeLine) -> Result<Roles, Memory>
+    requires { HasRolesNamed line.now }
     ensures { IfOk result (λ roles. roles ≡ roles_kept resolver.now line.now) }
 {
     roles(alloc, resolver, &line.pieces.pairs)
@@ -85,6 +93,7 @@ fn event_roles(
     mut rows: Vec<Roles>,
     lines: &[TypeLine],
 ) -> Result<Vec<Roles>, Memory>
+    requires { All HasRolesNamed lines.now }
     ensures { IfOk result (λ all. all.items ≡ rows.items ++ map (roles_kept resolver.now) lines.now) }
 {
     for line in lines {
@@ -100,6 +109,7 @@ pub fn roles_of_types(
     entities: &[TypeLine],
     events: &[TypeLine],
 ) -> Result<Vec<Roles>, Memory>
+    requires { All HasRolesNamed events.now }
     ensures { IfOk result (λ rows. rows.items ≡ map (λ line. []) entities.now ++ map (roles_kept resolver.now) events.now) }
 {
     let rows = no_roles(alloc, entities)?;

@@ -1,16 +1,18 @@
 //! The rows of types.
-ghost use Rattle.std.specs.Prelude.{◌≡◌, ◌+◌, ◌-◌, ◌==◌, ◌≤◌, ◌++◌, [], None, length, map, IfOk, option_map, vec_len, if◌then◌else◌};
+ghost use Rattle.std.specs.Prelude.{◌≡◌, ◌+◌, ◌-◌, ◌==◌, ◌≤◌, ◌++◌, [], None, All, length, map, IfOk, option_map, vec_len, if◌then◌else◌};
 ghost use Rattle.std.specs.BTreeMap.{get};
 ghost use Rattle.std.specs.Ordering.{nat_cmp};
 ghost use Rattle.annotation_conf.specs.ConfOf.{rows_from};
-ghost use Rattle.annotation_conf.specs.BuildTold.{bare_type, parent_by};
+ghost use Rattle.mark_base.specs.Names.{name_fault};
+ghost use Rattle.type_hierarchy.specs.TypeFaults.{fault_of};
+ghost use Rattle.annotation_conf.specs.BuildTold.{bare_type, parent_by, IsTypeNamed};
 
 use crate::build_roles::name_of;
 use crate::file::TypeLine;
 use mark_base::{Memory, TypeId};
 use std::alloc::Global;
 use std::collections::BTreeMap;
-use type_hierarchy::{TypeRow, Types};
+use type_hierarchy::{TypeRow, Types, TypesFault};
 
 /// The parent of a line of this depth: the last line that stands one less deep.
 fn parent_of(last: &BTreeMap<usize, u16>, depth: usize) -> Option<TypeId>
@@ -32,6 +34,7 @@ fn row(
     event: bool,
     line: &TypeLine,
 ) -> Result<TypeRow, Memory>
+    requires { name_fault line.now.name ≡ None }
     ensures { IfOk result (λ row. row ≡ record { name = line.now.name; parent = parent_by last.now line.now.depth; usable = line.now.usable; event = event }) }
 {
     Ok(TypeRow {
@@ -49,7 +52,8 @@ pub fn type_rows(
     event: bool,
     lines: &[TypeLine],
 ) -> Result<Vec<TypeRow>, Memory>
-    requires { vec_len rows + length lines.now ≤ 65535 }
+    requires few { vec_len rows + length lines.now ≤ 65535 }
+    requires named { All IsTypeNamed lines.now }
     ensures { IfOk result (λ all. all.items ≡ rows.items ++ rows_from (length rows.items) event [] (map bare_type lines.now)) }
 {
     let mut last: BTreeMap<usize, u16> = BTreeMap::new(alloc);
@@ -61,13 +65,17 @@ pub fn type_rows(
     Ok(rows)
 }
 
-/// The tree of rows that are one.
+/// The tree of rows that are one, as those of a file without fault are.
 pub fn tree_of(alloc: Global, rows: Vec<TypeRow>) -> Result<Types, Memory>
-    requires { vec_len rows ≤ 65536 }
+    requires few { vec_len rows ≤ 65536 }
+    requires sound { fault_of rows.items ≡ None }
     ensures { IfOk result (λ types. types ≡ rows.items) }
 {
     match Types::new(alloc, rows) {
         Ok(types) => Ok(types),
-        Err(_) => Err(Memory),
+        Err(TypesFault::Memory) => Err(Memory),
+        Err(TypesFault::NameTwice(_)) => unreachable!(),
+        Err(TypesFault::BadParent(_)) => unreachable!(),
+        Err(TypesFault::TooMany) => unreachable!(),
     }
 }

@@ -1,5 +1,5 @@
 //! The canonical text of a configuration.
-ghost use Rattle.std.specs.Prelude.{◌≡◌, ◌++◌, ◌+◌, ◌≤◌, ◌<◌, ◌∷◌, string_bytes, length, replicate, filter, map, codes, IfOk, OnOk, if◌then◌else◌, true, false, nat_lt, Ok};
+ghost use Rattle.std.specs.Prelude.{◌≡◌, ◌++◌, ◌≤◌, ◌<◌, [], string_bytes, length, replicate, filter, map, codes, IfOk, OnOk, if◌then◌else◌, true, false, nat_lt, Ok};
 ghost use Rattle.std.specs.List.{flat_map, enumerate_from, join_with_byte};
 ghost use Rattle.annotation_conf.specs.ConfOf.{conf_of};
 ghost use Rattle.annotation_conf.specs.Lookups.{roles_of};
@@ -91,28 +91,42 @@ fn push_type(
     push_line(alloc, out, row.name.text(), pairs.as_slice())
 }
 
-/// Appends the lines of the event types, or of the entity types, among types from a place on.
-fn push_types(
+/// Appends the line of a type where it is an event type, or where it is none.
+fn push_type_where(
     alloc: Global,
     out: &mut String,
     conf: &Conf,
     event: bool,
     place: u16,
+    row: &TypeRow,
+) -> Result<(), Memory>
+    requires { place < length conf.now.types }
+    ensures { OnOk result (string_bytes out.new ≡ string_bytes out.old ++ (if (if event then row.now.event else (if row.now.event then false else true)) then type_text conf.now (place, row.now) else [])) }
+{
+    if row.event == event {
+        push_type(alloc, out, conf, place, row)?;
+    }
+    Ok(())
+}
+
+/// Appends the lines of the event types, or of the entity types.
+fn push_types(
+    alloc: Global,
+    out: &mut String,
+    conf: &Conf,
+    event: bool,
     rows: &[TypeRow],
 ) -> Result<(), Memory>
-    requires within { place + length rows.now ≤ length conf.now.types }
+    requires within { length rows.now ≤ length conf.now.types }
     requires few { length conf.now.types ≤ 256 }
-    ensures { OnOk result (string_bytes out.new ≡ string_bytes out.old ++ flat_map (type_text conf.now) (filter (λ placed. if event then placed.1.event else (if placed.1.event then false else true)) (enumerate_from place rows.now))) }
+    ensures { OnOk result (string_bytes out.new ≡ string_bytes out.old ++ flat_map (type_text conf.now) (filter (λ placed. if event then placed.1.event else (if placed.1.event then false else true)) (enumerate_from 0 rows.now))) }
 {
-    match rows {
-        [] => Ok(()),
-        [row, rest @ ..] => {
-            if row.event == event {
-                push_type(alloc, out, conf, place, row)?;
-            }
-            push_types(alloc, out, conf, event, place + 1, rest)
-        }
+    let mut place: u16 = 0;
+    for row in rows {
+        push_type_where(alloc, out, conf, event, place, row)?;
+        place += 1;
     }
+    Ok(())
 }
 
 /// Appends a line of a relation type.
@@ -279,12 +293,12 @@ pub fn write_conf(alloc: Global, conf: &Conf) -> Result<Text, Memory>
     let rows = conf.types().rows();
     let _count = conf.types().count();
     let mut out = String::from_str(alloc, "[entities]\n")?;
-    push_types(alloc, &mut out, conf, false, 0, rows)?;
+    push_types(alloc, &mut out, conf, false, rows)?;
     out.push_str("[relations]\n")?;
     push_relations(alloc, &mut out, conf, conf.relations())?;
     push_overlaps(alloc, &mut out, conf, conf.overlaps())?;
     out.push_str("[events]\n")?;
-    push_types(alloc, &mut out, conf, true, 0, rows)?;
+    push_types(alloc, &mut out, conf, true, rows)?;
     out.push_str("[attributes]\n")?;
     push_attributes(alloc, &mut out, conf, conf.attributes())?;
     Ok(Text::from_string(out))

@@ -1,4 +1,7 @@
 //! Why bytes are no configuration.
+ghost use Rattle.std.specs.Prelude.{◌≡◌};
+ghost use Rattle.annotation_conf.specs.ConfFaultNames.{conf_name};
+
 use mark_base::Memory;
 
 /// What is at fault with a line.
@@ -35,6 +38,29 @@ pub enum ConfWhat {
     UnknownMacro,
     /// The line brings the 257th type, relation type, attribute, role or value, or the 64th usable type.
     TooManyTypes,
+}
+
+impl ConfWhat {
+    /// The name of the fault.
+    pub fn name(self) -> &'static str
+        ensures { result.now ≡ conf_name self }
+    {
+        match self {
+            ConfWhat::NotUtf8 => "NotUtf8",
+            ConfWhat::UnknownSection => "UnknownSection",
+            ConfWhat::SectionTwice => "SectionTwice",
+            ConfWhat::SectionMissing => "SectionMissing",
+            ConfWhat::OutsideSection => "OutsideSection",
+            ConfWhat::BadIndent => "BadIndent",
+            ConfWhat::BadName => "BadName",
+            ConfWhat::NameTwice => "NameTwice",
+            ConfWhat::BadCount => "BadCount",
+            ConfWhat::BadArgument => "BadArgument",
+            ConfWhat::UnknownTypeNamed => "UnknownTypeNamed",
+            ConfWhat::UnknownMacro => "UnknownMacro",
+            ConfWhat::TooManyTypes => "TooManyTypes",
+        }
+    }
 }
 
 /// Why bytes are no configuration.

@@ -1,6 +1,6 @@
 //! The words of a configuration's canonical text: alternatives, marks and pairs.
 ghost use Rattle.std.specs.Prelude.{◌≡◌, ◌++◌, ◌∷◌, List, string_bytes, decimal, map, filter, not, IfOk, OnOk, codes};
-ghost use Rattle.std.specs.List.{join_with_byte};
+ghost use Rattle.std.specs.List.{join_with_byte, flat_map};
 ghost use Rattle.annotation_conf.specs.ConfText.{where_so, type_name_at, relation_name_at, has_type_named, alternatives_text, braces_text, mark_text, pair_text, role_text, with_commas};
 
 use crate::{Alternatives, Conf, Role};
@@ -97,20 +97,27 @@ fn push_relation_names(
     Ok(())
 }
 
+/// Appends words with a mark before each.
+fn push_marked(out: &mut String, mark: &str, words: &[Text]) -> Result<(), Memory>
+    ensures { OnOk result (string_bytes out.new ≡ string_bytes out.old ++ flat_map (λ word. mark.now ++ word) words.now) }
+{
+    for word in words {
+        out.push_str(mark)?;
+        out.push_str(word.text())?;
+    }
+    Ok(())
+}
+
 /// Appends words with a bar between each two.
 fn push_joined(out: &mut String, words: &[Text]) -> Result<(), Memory>
     ensures { OnOk result (string_bytes out.new ≡ string_bytes out.old ++ join_with_byte 124 words.now) }
 {
     match words {
         [] => Ok(()),
-        [word] => {
-            out.push_str(word.text())?;
-            Ok(())
-        }
         [word, rest @ ..] => {
             out.push_str(word.text())?;
-            out.push_str("|")?;
-            push_joined(out, rest)
+            push_marked(out, "|", rest)?;
+            Ok(())
         }
     }
 }
@@ -130,14 +137,10 @@ fn push_with_commas(out: &mut String, words: &[Text]) -> Result<(), Memory>
 {
     match words {
         [] => Ok(()),
-        [word] => {
-            out.push_str(word.text())?;
-            Ok(())
-        }
         [word, rest @ ..] => {
             out.push_str(word.text())?;
-            out.push_str(", ")?;
-            push_with_commas(out, rest)
+            push_marked(out, ", ", rest)?;
+            Ok(())
         }
     }
 }

@@ -12,6 +12,13 @@ use mark_base::Memory;
 use std::alloc::Global;
 use std::marker::Model;
 
+/// The types, the relation types, the attributes, the roles of a type and the values of an attribute of
+/// the fullest tables.
+pub const MOST_ROWS: usize = 256;
+
+/// The types that annotations may have, where there are most of them.
+const MOST_USABLE: usize = 63;
+
 /// The names that a file declares. Contracts see them as the file.
 #[derive(Drop)]
 pub struct KnownNames<'a> {
@@ -172,31 +179,34 @@ impl<'a> KnownNames<'a> {
     pub fn are_types_past(&self, number: u32) -> bool
         ensures { result ≡ are_past 256 number (bound_names self.now) }
     {
-        let entities = self.entities.count_up_to(number).min(257);
-        let events = self.events.count_up_to(number).min(257);
-        entities + events > 256
+        let entities = self.entities.count_up_to(number).min(MOST_ROWS + 1);
+        let events = self.events.count_up_to(number).min(MOST_ROWS + 1);
+        entities + events > MOST_ROWS
     }
     /// Whether more than 63 types that annotations may have stand up to a line.
     pub fn are_usable_past(&self, number: u32) -> bool
         ensures { result ≡ are_past 63 number (of_types (filter (λ one. one.usable) (self.now.entities ++ self.now.events))) }
     {
-        let entities = self.usable_entities.count_up_to(number).min(64);
-        let events = self.usable_events.count_up_to(number).min(64);
-        entities + events > 63
+        let entities = self
+            .usable_entities
+            .count_up_to(number)
+            .min(MOST_USABLE + 1);
+        let events = self.usable_events.count_up_to(number).min(MOST_USABLE + 1);
+        entities + events > MOST_USABLE
     }
 
     /// Whether more than 256 relation types stand up to a line.
     pub fn are_relation_types_past(&self, number: u32) -> bool
         ensures { result ≡ are_past 256 number (of_named (firsts self.now.relations)) }
     {
-        self.relation_types.count_up_to(number) > 256
+        self.relation_types.count_up_to(number) > MOST_ROWS
     }
 
     /// Whether more than 256 attributes stand up to a line.
     pub fn are_attributes_past(&self, number: u32) -> bool
         ensures { result ≡ are_past 256 number (of_named self.now.attributes) }
     {
-        self.attributes.count_up_to(number) > 256
+        self.attributes.count_up_to(number) > MOST_ROWS
     }
 
     /// The place of the first line of a relation type.

@@ -8,7 +8,7 @@ ghost use Rattle.annotation_conf.specs.KnownMacros.{AreFirstKinds, kinds_of_macr
 ghost use Rattle.annotation_conf.specs.FaultsTold.{too_deep, is_undeclared, names_no_type, unheld_in, type_told, mark_equivalence, agree_kept, agrees_with_first, relation_told, kinds_in, overlap_told, values_twice, target_names_nothing, target_unheld, targets_name_nothing, targets_unheld, has_many_values, many_values_in, attribute_told, macro_told};
 
 use crate::ConfWhat;
-use crate::faults_known::KnownNames;
+use crate::faults_known::{KnownNames, MOST_ROWS};
 use crate::faults_macros::{
     Kinds, KnownMacros, held_macro, is_undeclared, is_unheld, names_no_type,
 };
@@ -92,7 +92,7 @@ fn brings_too_many(known: &KnownMacros, number: u32, pairs: &[RolePair]) -> bool
 {
     known.names().are_types_past(number)
         || known.names().are_usable_past(number)
-        || pairs.len() > 256
+        || pairs.len() > MOST_ROWS
 }
 
 /// The fault of a type line behind one of this depth. The roles of an event type are its pairs.
@@ -250,15 +250,21 @@ pub fn is_equivalence(keyed: &[KeyedPair]) -> bool
 fn have_same_roles(first: &[RolePair], line: &[RolePair]) -> bool
     ensures { result ≡ same_words (map (λ pair. pair.role) (map seen_pair first.now)) (map (λ pair. pair.role) (map seen_pair line.now)) }
 {
-    match first {
-        [] => line.is_empty(),
-        [one, first @ ..] => match line {
-            [] => false,
-            [other, line @ ..] => {
-                one.role.text() == other.role.text() && have_same_roles(first, line)
+    let mut left = first;
+    let mut right = line;
+    while let Some((one, rest)) = left.split_first() {
+        match right {
+            [] => return false,
+            [other, others @ ..] => {
+                if one.role.text() != other.role.text() {
+                    return false;
+                }
+                left = rest;
+                right = others;
             }
-        },
+        }
     }
+    right.is_empty()
 }
 
 /// Whether a pair of an attribute has values of which one stands twice.
@@ -318,7 +324,7 @@ fn targets_are_unheld(known: &KnownMacros, pairs: &[RolePair]) -> bool
 fn has_many_values(pair: &RolePair) -> bool
     ensures { result ≡ has_many_values pair.now }
 {
-    is_values(pair) && pair.alternatives.len() > 256
+    is_values(pair) && pair.alternatives.len() > MOST_ROWS
 }
 
 /// Whether some pair has more than 256 values.

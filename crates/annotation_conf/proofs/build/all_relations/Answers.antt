@@ -5,7 +5,17 @@ use Rattle.annotation_conf.specs.KnownFiles.{IsKnown}
 use Rattle.annotation_conf.specs.Configurations.{RelationType}
 use Rattle.annotation_conf.specs.BuildTold.{relation_kept, firsts_kept}
 use Rattle.annotation_conf.proofs.BuildTables.{relations_shown}
+use Rattle.std.proofs.lemmas.List.Elements.{All-same}
+use Rattle.annotation_conf.specs.BuildTold.{IsRelationNamed}
+use Rattle.annotation_conf.proofs.BuildNamed.{relations_named}
 use Rattle.annotation_conf.proofs.build.all_relations.Goals as goal
+
+pub relations-requires : goal.relations-requires
+relations-requires c =
+    let file : File = c.args.resolver.now in
+    let values : FileValue = c.file.result.now in
+    let known : IsKnown values file = (let P : File → Type 0 = λ f. IsKnown values f in subst P c.names.ensures.value c.file.ensures) in
+    All-same IsRelationNamed c.deref.result.now values.relations.items c.deref.ensures.value (relations_named c.args.text.now file values known c.requires)
 
 pub returns : goal.returns
 returns c =

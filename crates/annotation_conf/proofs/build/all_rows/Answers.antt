@@ -1,24 +1,40 @@
 use Rattle.std.proofs.Common.{◌≡◌, ◌∙◌, ◌+◌, ◌++◌, [], List, ap, subst, length, arith, map, false, true}
 use Rattle.std.proofs.lemmas.List.{length-append, length-map}
+use Rattle.std.proofs.lemmas.List.Elements.{All-same}
 use Rattle.type_hierarchy.specs.declared.type_row.TypeRow.{TypeRow}
 use Rattle.annotation_conf.specs.declared.file.File.{File as FileValue}
 use Rattle.annotation_conf.specs.declared.file.TypeLine.{TypeLine}
 use Rattle.annotation_conf.specs.ConfNames.{File}
 use Rattle.annotation_conf.specs.ConfOf.{rows_from}
 use Rattle.annotation_conf.specs.KnownFiles.{IsKnown}
-use Rattle.annotation_conf.specs.BuildTold.{bare_type}
+use Rattle.annotation_conf.specs.BuildTold.{bare_type, IsTypeNamed}
+use Rattle.annotation_conf.proofs.BuildNamed.{entities_named, events_named}
 use Rattle.annotation_conf.proofs.BuildTables.{rows_shown, length_rows, few_lines}
 use Rattle.annotation_conf.proofs.build.all_rows.Goals as goal
 
-pub type_rows-requires : goal.type_rows-requires
-type_rows-requires c =
+pub type_rows-requires-clause-named : goal.type_rows-requires-clause-named
+type_rows-requires-clause-named c =
+    let file : File = c.args.resolver.now in
+    let values : FileValue = c.file-file.result.now in
+    let known : IsKnown values file = (let P : File → Type 0 = λ f. IsKnown values f in subst P c.names.ensures.value c.file-file.ensures) in
+    All-same IsTypeNamed c.deref.result.now values.entities.items c.deref.ensures.value (entities_named c.args.text.now file values known c.requires)
+
+pub type_rows-requires-2-clause-named : goal.type_rows-requires-2-clause-named
+type_rows-requires-2-clause-named c =
+    let file : File = c.args.resolver.now in
+    let values : FileValue = c.file-file.result.now in
+    let known : IsKnown values file = (let P : File → Type 0 = λ f. IsKnown values f in subst P c.names.ensures.value c.file-file.ensures) in
+    All-same IsTypeNamed c.deref-2.result.now values.events.items c.deref-2.ensures.value (events_named c.args.text.now file values known c.requires)
+
+pub type_rows-requires-clause-few : goal.type_rows-requires-clause-few
+type_rows-requires-clause-few c =
     let file : File = c.args.resolver.now in
     let values : FileValue = c.file-file.result.now in
     let known : IsKnown values file = (let P : File → Type 0 = λ f. IsKnown values f in subst P c.names.ensures.value c.file-file.ensures) in
     omega (arith, few_lines file values known c.names.ensures.tables.types.few, ap length c.deref.ensures.value, c.new.ensures.len)
 
-pub type_rows-requires-2 : goal.type_rows-requires-2
-type_rows-requires-2 c =
+pub type_rows-requires-2-clause-few : goal.type_rows-requires-2-clause-few
+type_rows-requires-2-clause-few c =
     let file : File = c.args.resolver.now in
     let values : FileValue = c.file-file.result.now in
     let known : IsKnown values file = (let P : File → Type 0 = λ f. IsKnown values f in subst P c.names.ensures.value c.file-file.ensures) in
