@@ -40,10 +40,10 @@ removed es fs k same =
     ∙ ap (λ b. cond b None (map.get {R = nat_cmp} (from_entries es) q)) ((eq_by_cmp_equiv nat_cmp_total).symm q k)
     ∙ ap (λ r. cond (is_at (nat_cmp k) q) None r) (looked_up es q)))
 
-none_some : {X : Type 0} {x : X} → None ≡ Some x → ⊥
+pub none_some : {X : Type 0} {x : X} → None ≡ Some x → ⊥
 none_some e = cc
 
-same_some : {X : Type 0} {x y : X} → Some x ≡ Some y → x ≡ y
+pub same_some : {X : Type 0} {x y : X} → Some x ≡ Some y → x ≡ y
 same_some e = cc
 
 -- what is held stays in ascending order

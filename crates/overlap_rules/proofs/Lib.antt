@@ -1,5 +1,7 @@
+mod BucketLemmas
 mod CoverLemmas
 mod IndexLemmas
 pub mod Laws
+mod NearLemmas
 mod OrderLemmas
 mod TouchLemmas

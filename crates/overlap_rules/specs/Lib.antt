@@ -1,2 +1,3 @@
+pub mod Buckets
 pub mod Overlaps
 pub mod TouchingSpans

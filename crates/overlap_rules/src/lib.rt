@@ -17,6 +17,7 @@
 //! callers may conclude from the clauses stands in `proofs/Laws.antt`.
 #![tactic(auto)]
 
+mod buckets;
 mod order;
 mod overlap;
 mod span_index;

@@ -1,13 +1,15 @@
 //! Spans by number, among which the first that touches given fragments is found.
-ghost use Rattle.std.specs.Prelude.{◌≡◌, ◌<◌, ◌≤◌, IsTrue, None, OnErr, OnOk, is_some, length};
+ghost use Rattle.std.specs.Prelude.{◌≡◌, ℕ, ◌<◌, ◌≤◌, IsTrue, IsFalse, None, OnErr, OnOk, is_some, length};
 ghost use Rattle.std.specs.FinMap as map;
 ghost use Rattle.overlap_rules.specs.Overlaps.{are_ascending, reach};
-ghost use Rattle.overlap_rules.specs.TouchingSpans.{IsFirstTouching};
+ghost use Rattle.overlap_rules.specs.TouchingSpans.{AreAscending, IsFirstTouching, Passes, Fails};
+ghost use Rattle.overlap_rules.specs.Buckets.{held_in, IsKept, FoundPasses, IsNoHigher, StandsNear, IsBelow};
 
+use crate::buckets::{Places, first_bucket, last_bucket, put_near, take_near};
 use crate::kind_of;
 use mark_base::{Frag, FragList, Memory, OvlKind};
 use std::alloc::Global;
-use std::collections::BTreeMap;
+use std::collections::{BTreeMap, BTreeSet};
 use std::marker::Model;
 
 /// The fragments of spans by number. Contracts see it as a finite map from number to fragments.
@@ -15,11 +17,13 @@ use std::marker::Model;
 pub struct SpanIndex {
     alloc: Global,
     spans: BTreeMap<u32, FragList>,
+    places: Places,
 }
 
 impl Model for SpanIndex {
     ghost use Rattle.std.specs.FinMap as map;
-    ghost use Rattle.overlap_rules.specs.TouchingSpans.{AreAscending, Held, held_code};
+    ghost use Rattle.overlap_rules.specs.TouchingSpans.{Held, held_code};
+    ghost use Rattle.overlap_rules.specs.Buckets.{IsKept};
 
     ghost Value = { Held };
 
@@ -27,7 +31,7 @@ impl Model for SpanIndex {
 
     ghost view = { λ index. map.from_entries index.spans.entries };
 
-    ghost invariant = { λ index. AreAscending (map.from_entries index.spans.entries) };
+    ghost invariant = { λ index. IsKept (map.from_entries index.spans.entries) index.places };
 }
 
 impl SpanIndex {
@@ -38,12 +42,14 @@ impl SpanIndex {
         SpanIndex {
             alloc,
             spans: BTreeMap::new(alloc),
+            places: BTreeSet::new(alloc),
         }
     }
 
     /// Holds the span of a number that has none yet: fragments in ascending order, at least one and
     /// none of them empty, that reach over at most 10,000 characters. Want of memory leaves the index as
-    /// it was. Cost: the number of fragments and the logarithm of the number of spans.
+    /// it was. Cost: the number of fragments, and for each bucket that they meet the logarithm of the
+    /// number of spans.
     pub fn put(&mut self, number: u32, frags: &[Frag]) -> Result<(), Memory>
         requires absent { map.get self.old number ≡ None }
         requires ascending { IsTrue (are_ascending frags.now) }
@@ -52,24 +58,36 @@ impl SpanIndex {
         ensures held { OnOk result (self.new ≡ map.insert self.old number frags.now) }
         ensures kept { OnErr result (self.new ≡ self.old) }
     {
-        let frags = FragList::of(self.alloc, frags)?;
-        self.spans.insert(number, frags)?;
-        Ok(())
+        let span = FragList::of(self.alloc, frags)?;
+        match hold(&mut self.spans, &mut self.places, number, span, frags) {
+            Ok(()) => Ok(()),
+            Err(want) => {
+                take_near(&mut self.places, number, frags);
+                Err(want)
+            }
+        }
     }
 
     /// Lets the span of a number go, and answers whether there was one. Cost: the number of its
-    /// fragments and the logarithm of the number of spans.
+    /// fragments, and for each bucket that they meet the logarithm of the number of spans.
     pub fn take(&mut self, number: u32) -> bool
         ensures left { self.new ≡ map.remove self.old number }
         ensures held { result ≡ is_some (map.get self.old number) }
     {
-        self.spans.remove(&number).is_some()
+        match self.spans.remove(&number) {
+            Some(span) => {
+                take_near(&mut self.places, number, span.items());
+                true
+            }
+            None => false,
+        }
     }
 
     /// The lowest number, other than the one to skip, whose span has a character in common with these
     /// fragments and passes the test, or `None` where there is none. The test is told the number and
     /// how the span lies to the fragments; it is asked only of spans that touch them. The fragments are
-    /// as for `put`. Cost: for each span up to that number its fragments and the given ones.
+    /// as for `put`. Cost: for each span that stands in one of the buckets that the given fragments meet
+    /// its fragments and the given ones, and the logarithm of the number of spans.
     pub fn first_touching<F: Fn(u32, OvlKind) -> bool>(
         &self,
         frags: &[Frag],
@@ -82,15 +100,98 @@ impl SpanIndex {
         requires short { reach frags.now ≤ 10000 }
         ensures { IsFirstTouching (F.post test) self.now frags.now skip result }
     {
-        for (number, span) in &self.spans {
-            if skip == Some(*number) {
-                continue;
-            }
-            let kind = kind_of(span.items(), frags);
-            if kind != OvlKind::Apart && test(*number, kind) {
-                return Some(*number);
-            }
+        let mut found = None;
+        for frag in frags {
+            found = lowest_near(&self.spans, &self.places, frag, frags, skip, &test, found);
         }
-        None
+        found
     }
+}
+
+/// Holds the span of a number, and puts the number near its fragments. On want of memory the span is not
+/// held.
+fn hold(
+    spans: &mut BTreeMap<u32, FragList>,
+    places: &mut Places,
+    number: u32,
+    span: FragList,
+    frags: &[Frag],
+) -> Result<(), Memory>
+    requires kept { IsKept (held_in spans.old.entries) places.old }
+    requires span { span ≡ frags.now }
+    requires ascending { IsTrue (are_ascending frags.now) }
+    ensures kept { IsKept (held_in spans.new.entries) places.new }
+    ensures held { OnOk result (held_in spans.new.entries ≡ map.insert (held_in spans.old.entries) number frags.now) }
+    ensures same { OnErr result (held_in spans.new.entries ≡ held_in spans.old.entries) }
+{
+    put_near(places, number, frags)?;
+    spans.insert(number, span)?;
+    Ok(())
+}
+
+/// Whether a number's span is held, is not the one to skip, touches the fragments and passes the test.
+fn passes<F: Fn(u32, OvlKind) -> bool>(
+    spans: &BTreeMap<u32, FragList>,
+    number: u32,
+    frags: &[Frag],
+    skip: Option<u32>,
+    test: &F,
+) -> bool
+    requires callable { F.IsAlwaysCallable test.now }
+    requires held { AreAscending (held_in spans.now.entries) }
+    requires ascending { IsTrue (are_ascending frags.now) }
+    ensures yes { IsTrue result → Passes (F.post test.now) (held_in spans.now.entries) frags.now skip number }
+    ensures no { IsFalse result → Fails (F.post test.now) (held_in spans.now.entries) frags.now skip number }
+{
+    if skip == Some(number) {
+        return false;
+    }
+    match spans.get(&number) {
+        Some(span) => {
+            let kind = kind_of(span.items(), frags);
+            kind != OvlKind::Apart && test(number, kind)
+        }
+        None => false,
+    }
+}
+
+/// Whether a number is below the lowest that was found, if one was found.
+fn is_below(number: u32, found: Option<u32>) -> bool
+    ensures yes { IsTrue result → IsBelow number found }
+    ensures no { IsFalse result → IsBelow number found → ⊥ }
+{
+    match found {
+        Some(lowest) => number < lowest,
+        None => true,
+    }
+}
+
+/// The lowest of a number that was found before and of those that pass and stand near a fragment.
+fn lowest_near<F: Fn(u32, OvlKind) -> bool>(
+    spans: &BTreeMap<u32, FragList>,
+    places: &Places,
+    near: &Frag,
+    frags: &[Frag],
+    skip: Option<u32>,
+    test: &F,
+    before: Option<u32>,
+) -> Option<u32>
+    requires callable { F.IsAlwaysCallable test.now }
+    requires held { AreAscending (held_in spans.now.entries) }
+    requires ascending { IsTrue (are_ascending frags.now) }
+    requires some { near.now.start < near.now.end }
+    requires passes { FoundPasses (F.post test.now) (held_in spans.now.entries) frags.now skip before }
+    ensures passes { FoundPasses (F.post test.now) (held_in spans.now.entries) frags.now skip result }
+    ensures lower { IsNoHigher before result }
+    ensures others { (number : ℕ) → StandsNear places.now near.now number → IsBelow number result → Fails (F.post test.now) (held_in spans.now.entries) frags.now skip number }
+{
+    let mut found = before;
+    let first = (first_bucket(near), 0);
+    let behind = (last_bucket(near) + 1, 0);
+    for (_, number) in places.range(first..behind) {
+        if is_below(*number, found) && passes(spans, *number, frags, skip, test) {
+            found = Some(*number);
+        }
+    }
+    found
 }

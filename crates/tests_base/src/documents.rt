@@ -3,27 +3,36 @@ use char_documents::{Doc, DocFault, RefFault};
 use mark_base::Frag;
 use std::test::Fail;
 
+/// Characters of one to four bytes, and each kind of line end.
+const MIXED: &str = "aé€😀\nb\r\nc\rd";
+
+const SLICES: &[(u32, u32, Option<&str>)] = &[
+    (0, 1, Some("a")),
+    (1, 2, Some("é")),
+    (2, 3, Some("€")),
+    (3, 4, Some("😀")),
+    (0, 4, Some("aé€😀")),
+    (4, 8, Some("\nb\r\n")),
+    (11, 11, Some("")),
+    (3, 2, None),
+    (10, 12, None),
+    (12, 12, None),
+];
+
 #[test]
-fn slices_and_reference_texts_count_characters(rt: HostRuntime) -> Result<(), Fail> {
-    let alloc = rt.alloc();
-    let doc = Doc::new(alloc, "aé€😀\nb\r\nc\rd")?;
+fn slices_count_characters(rt: HostRuntime) -> Result<(), Fail> {
+    let doc = Doc::new(rt.alloc(), MIXED)?;
     assert_eq!(rt; doc.char_count(), 11);
-    assert_eq!(rt; doc.text(), "aé€😀\nb\r\nc\rd");
-    let slices = [
-        (0, 1, Some("a")),
-        (1, 2, Some("é")),
-        (2, 3, Some("€")),
-        (3, 4, Some("😀")),
-        (0, 4, Some("aé€😀")),
-        (4, 8, Some("\nb\r\n")),
-        (11, 11, Some("")),
-        (3, 2, None),
-        (10, 12, None),
-        (12, 12, None),
-    ];
-    for (start, end, piece) in slices {
+    assert_eq!(rt; doc.text(), MIXED);
+    for &(start, end, piece) in SLICES {
         assert_eq!(rt; doc.slice(Frag { start, end }), piece, "{start} {end}");
     }
+    Ok(())
+}
+
+#[test]
+fn reference_texts_have_blanks_for_line_ends(rt: HostRuntime) -> Result<(), Fail> {
+    let doc = Doc::new(rt.alloc(), MIXED)?;
     let whole = doc.reference(&[Frag { start: 0, end: 11 }])?;
     assert_eq!(rt; whole.text(), "aé€😀 b  c d");
     let two = [Frag { start: 1, end: 4 }, Frag { start: 7, end: 10 }];
@@ -34,6 +43,16 @@ fn slices_and_reference_texts_count_characters(rt: HostRuntime) -> Result<(), Fa
     Ok(())
 }
 
+const LONG_SLICES: &[(u32, u32, &str)] = &[
+    (254, 257, "é😀é"),
+    (255, 256, "😀"),
+    (256, 257, "é"),
+    (511, 513, "😀é"),
+    (512, 512, ""),
+    (1023, 1024, "😀"),
+    (1024, 1024, ""),
+];
+
 #[test]
 fn slices_are_found_at_checkpoints_and_beside_them(rt: HostRuntime) -> Result<(), Fail> {
     let mut text = String::new(rt.alloc());
@@ -42,16 +61,7 @@ fn slices_are_found_at_checkpoints_and_beside_them(rt: HostRuntime) -> Result<()
     }
     let doc = Doc::new(rt.alloc(), text.as_str())?;
     assert_eq!(rt; doc.char_count(), 1024);
-    let slices = [
-        (254, 257, "é😀é"),
-        (255, 256, "😀"),
-        (256, 257, "é"),
-        (511, 513, "😀é"),
-        (512, 512, ""),
-        (1023, 1024, "😀"),
-        (1024, 1024, ""),
-    ];
-    for (start, end, piece) in slices {
+    for &(start, end, piece) in LONG_SLICES {
         assert_eq!(rt;
             doc.slice(Frag { start, end }),
             Some(piece),
@@ -68,18 +78,19 @@ fn slices_are_found_at_checkpoints_and_beside_them(rt: HostRuntime) -> Result<()
     Ok(())
 }
 
+const TOKENS: &[(&str, &[(u32, u32)])] = &[
+    ("", &[]),
+    (" \t\r\n", &[]),
+    ("ab c", &[(0, 2), (3, 4)]),
+    (" é\u{a0}€😀\u{3000}x", &[(1, 2), (3, 5), (6, 7)]),
+    ("a\u{85}b", &[(0, 1), (2, 3)]),
+    ("a\u{200b}b", &[(0, 3)]),
+    ("x.\n", &[(0, 2)]),
+];
+
 #[test]
 fn tokens_stand_between_white_space(rt: HostRuntime) -> Result<(), Fail> {
-    let texts: [(&str, &[(u32, u32)]); 7] = [
-        ("", &[]),
-        (" \t\r\n", &[]),
-        ("ab c", &[(0, 2), (3, 4)]),
-        (" é\u{a0}€😀\u{3000}x", &[(1, 2), (3, 5), (6, 7)]),
-        ("a\u{85}b", &[(0, 1), (2, 3)]),
-        ("a\u{200b}b", &[(0, 3)]),
-        ("x.\n", &[(0, 2)]),
-    ];
-    for (text, wanted) in texts {
+    for &(text, wanted) in TOKENS {
         let doc = Doc::new(rt.alloc(), text)?;
         assert_eq!(rt; doc.tokens().len(), wanted.len(), "{text}");
         for (token, (start, end)) in doc.tokens().iter().zip(wanted) {

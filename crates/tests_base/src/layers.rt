@@ -145,20 +145,21 @@ fn shows_each(layer: &Layer) -> bool {
         && layer.note(6).is_some()
 }
 
+const LETTERS: &[(Kind, u32, u16)] = &[
+    (Kind::Text, 2, 9),
+    (Kind::Event, 1, 1),
+    (Kind::Relation, 1, 2),
+    (Kind::Attribute, 1, 3),
+    (Kind::Legacy, 1, 4),
+    (Kind::Normal, 1, 5),
+    (Kind::Note, 1, 6),
+];
+
 #[test]
 fn each_letter_has_its_annotations(rt: HostRuntime) -> Result<(), Fail> {
     let mut layer = full_layer(rt.alloc())?;
     let copied = layer.copy()?;
-    let table = [
-        (Kind::Text, 2, 9),
-        (Kind::Event, 1, 1),
-        (Kind::Relation, 1, 2),
-        (Kind::Attribute, 1, 3),
-        (Kind::Legacy, 1, 4),
-        (Kind::Normal, 1, 5),
-        (Kind::Note, 1, 6),
-    ];
-    for (kind, count, greatest) in table {
+    for &(kind, count, greatest) in LETTERS {
         assert_eq!(rt; counts(&layer, kind), (count, Some(u32::from(greatest))));
         assert!(rt; gives_once(&mut layer, id(kind, greatest)));
     }

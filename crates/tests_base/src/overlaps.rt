@@ -122,17 +122,18 @@ fn kinds_go_by_the_sets_of_characters(rt: HostRuntime) {
     }
 }
 
+const ORDERS: &[(&[Frag], bool, u32)] = &[
+    (frags!(), true, 0),
+    (frags!(3 8), true, 5),
+    (frags!(3 8; 8 9; 20 10_003), true, 10_000),
+    (frags!(3 3), false, 0),
+    (frags!(3 8; 7 9), false, 6),
+    (frags!(8 9; 3 5), false, 0),
+];
+
 #[test]
 fn fragments_ascend_and_reach(rt: HostRuntime) {
-    let orders: [(&[Frag], bool, u32); 6] = [
-        (frags!(), true, 0),
-        (frags!(3 8), true, 5),
-        (frags!(3 8; 8 9; 20 10_003), true, 10_000),
-        (frags!(3 3), false, 0),
-        (frags!(3 8; 7 9), false, 6),
-        (frags!(8 9; 3 5), false, 0),
-    ];
-    for (frags, order, length) in orders {
+    for &(frags, order, length) in ORDERS {
         assert_eq!(rt; are_ascending(frags), order, "{frags:?}");
         assert_eq!(rt; reach(frags), length, "{frags:?}");
     }
@@ -165,6 +166,8 @@ const SPANS: &[(u32, &[Frag])] = &[
     (1, frags!(0 8)),
     (3, frags!(20 25; 30 33)),
     (4, frags!(30 31)),
+    (5, frags!(60 70)),
+    (6, frags!(100 101; 500 501)),
 ];
 
 /// Fragments, the number to skip, the kind that is sought, if it matters, and the number that is found.
@@ -184,6 +187,13 @@ const QUERIES: &[Query] = &[
     // In a gap, and behind the last character of each.
     (frags!(25 30), None, None, None),
     (frags!(13 20; 33 40), None, None, None),
+    // Where the buckets of 64 characters end.
+    (frags!(64 65), None, None, Some(5)),
+    (frags!(69 128), None, None, Some(5)),
+    (frags!(69 128), Some(5), None, Some(6)),
+    (frags!(70 100), None, None, None),
+    (frags!(128 500), None, None, None),
+    (frags!(63 64; 500 501), Some(5), None, Some(6)),
 ];
 
 /// The first span above a number that touches: the clause of `first_touching`, with what is known of the

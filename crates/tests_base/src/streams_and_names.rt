@@ -100,7 +100,7 @@ fn steps_are_counted() {
 }
 
 #[test]
-fn names_and_slugs_are_read_by_their_spelling(rt: HostRuntime) -> Result<(), Fail> {
+fn long_names_are_refused(rt: HostRuntime) -> Result<(), Fail> {
     let alloc = rt.alloc();
     let mut two = String::new(alloc);
     let mut four = String::new(alloc);
@@ -113,43 +113,64 @@ fn names_and_slugs_are_read_by_their_spelling(rt: HostRuntime) -> Result<(), Fai
     }
     two.push('é')?;
     four.push('😀')?;
-    let refused = [
-        ("", NameFault::Empty),
-        (two.as_str(), NameFault::TooLong),
-        (four.as_str(), NameFault::TooLong),
-        ("a b", NameFault::BadChar(1)),
-        ("é\u{3000}", NameFault::BadChar(1)),
-        ("ab\u{85}", NameFault::BadChar(2)),
-        ("\u{7f}", NameFault::BadChar(0)),
-        ("a:b", NameFault::BadChar(1)),
-        ("a|b", NameFault::BadChar(1)),
-        ("a,b", NameFault::BadChar(1)),
-        ("<a", NameFault::BadChar(0)),
-        ("a>", NameFault::BadChar(1)),
-        ("a{", NameFault::BadChar(1)),
-        ("a}", NameFault::BadChar(1)),
-        ("a?", NameFault::BadChar(1)),
-        ("a*", NameFault::BadChar(1)),
-        ("a+", NameFault::BadChar(1)),
-        ("!a", NameFault::BadChar(0)),
-        ("#a", NameFault::BadChar(0)),
-        ("aé;", NameFault::BadChar(2)),
-    ];
-    for (text, fault) in refused {
-        assert_eq!(rt; Name::new(alloc, text).map(|_| ()), Err(fault), "{text}");
+    for text in [two.as_str(), four.as_str()] {
+        assert_eq!(rt; Name::new(alloc, text).map(|_| ()), Err(NameFault::TooLong));
     }
+    assert_eq!(rt;
+        Slug::new(alloc, two.as_str()).map(|_| ()),
+        Err(NameFault::TooLong)
+    );
+    Ok(())
+}
+
+const NO_NAMES: &[(&str, NameFault)] = &[
+    ("", NameFault::Empty),
+    ("a b", NameFault::BadChar(1)),
+    ("é\u{3000}", NameFault::BadChar(1)),
+    ("ab\u{85}", NameFault::BadChar(2)),
+    ("\u{7f}", NameFault::BadChar(0)),
+    ("a:b", NameFault::BadChar(1)),
+    ("a|b", NameFault::BadChar(1)),
+    ("a,b", NameFault::BadChar(1)),
+    ("<a", NameFault::BadChar(0)),
+    ("a>", NameFault::BadChar(1)),
+    ("a{", NameFault::BadChar(1)),
+    ("a}", NameFault::BadChar(1)),
+    ("a?", NameFault::BadChar(1)),
+    ("a*", NameFault::BadChar(1)),
+    ("a+", NameFault::BadChar(1)),
+    ("!a", NameFault::BadChar(0)),
+    ("#a", NameFault::BadChar(0)),
+    ("aé;", NameFault::BadChar(2)),
+];
+
+#[test]
+fn names_have_no_blank_and_no_sign_of_the_grammar(rt: HostRuntime) -> Result<(), Fail> {
+    for &(text, fault) in NO_NAMES {
+        assert_eq!(rt;
+            Name::new(rt.alloc(), text).map(|_| ()),
+            Err(fault),
+            "{text}"
+        );
+    }
+    Ok(())
+}
+
+const NO_SLUGS: &[(&str, NameFault)] = &[
+    ("", NameFault::Empty),
+    (".a", NameFault::BadChar(0)),
+    ("aé", NameFault::BadChar(1)),
+    ("a/b", NameFault::BadChar(1)),
+];
+
+#[test]
+fn slugs_have_letters_digits_and_three_signs(rt: HostRuntime) -> Result<(), Fail> {
+    let alloc = rt.alloc();
     assert_eq!(rt;
         Slug::new(alloc, "a.b_c-9")?.copy()?.clone()?.text(),
         "a.b_c-9"
     );
-    let refused = [
-        ("", NameFault::Empty),
-        (two.as_str(), NameFault::TooLong),
-        (".a", NameFault::BadChar(0)),
-        ("aé", NameFault::BadChar(1)),
-        ("a/b", NameFault::BadChar(1)),
-    ];
-    for (text, fault) in refused {
+    for &(text, fault) in NO_SLUGS {
         assert_eq!(rt; Slug::new(alloc, text).map(|_| ()), Err(fault), "{text}");
     }
     let early = Slug::new(alloc, "B")?;
@@ -159,39 +180,52 @@ fn names_and_slugs_are_read_by_their_spelling(rt: HostRuntime) -> Result<(), Fai
     Ok(())
 }
 
+const IDS: &[(&str, Kind, u32)] = &[
+    ("T1", Kind::Text, 1u32),
+    ("E12", Kind::Event, 12),
+    ("R0", Kind::Relation, 0),
+    ("A999999999", Kind::Attribute, 999_999_999),
+    ("M3", Kind::Legacy, 3),
+    ("N40", Kind::Normal, 40),
+    ("#5", Kind::Note, 5),
+];
+
 #[test]
 fn ids_are_read_by_their_spelling(rt: HostRuntime) -> Result<(), Fail> {
-    let read = [
-        ("T1", Kind::Text, 1u32),
-        ("E12", Kind::Event, 12),
-        ("R0", Kind::Relation, 0),
-        ("A999999999", Kind::Attribute, 999_999_999),
-        ("M3", Kind::Legacy, 3),
-        ("N40", Kind::Normal, 40),
-        ("#5", Kind::Note, 5),
-    ];
-    for (text, kind, number) in read {
+    for &(text, kind, number) in IDS {
         let id = AnnId::read(text.as_bytes());
         assert_eq!(rt; id, AnnId::new(kind, number), "{text}");
         assert!(rt; id.is_some(), "{text}");
     }
-    for text in [
-        "",
-        "T",
-        "T01",
-        "t1",
-        "A1000000000",
-        "T-1",
-        "T+1",
-        "T1 ",
-        "1",
-        "TT1",
-        "T00",
-        "*",
-        "B1",
-    ] {
+    Ok(())
+}
+
+const NO_IDS: &[&str] = &[
+    "",
+    "T",
+    "T01",
+    "t1",
+    "A1000000000",
+    "T-1",
+    "T+1",
+    "T1 ",
+    "1",
+    "TT1",
+    "T00",
+    "*",
+    "B1",
+];
+
+#[test]
+fn other_spellings_are_no_ids(rt: HostRuntime) -> Result<(), Fail> {
+    for text in NO_IDS {
         assert_eq!(rt; AnnId::read(text.as_bytes()), None, "{text}");
     }
+    Ok(())
+}
+
+#[test]
+fn ids_are_ordered_by_letter_and_then_by_number(rt: HostRuntime) -> Result<(), Fail> {
     assert_eq!(rt; AnnId::new(Kind::Note, 1_000_000_000), None);
     assert!(rt; AnnId::read(b"T9") < AnnId::read(b"T10"));
     assert!(rt; AnnId::read(b"N9") < AnnId::read(b"#1"));
@@ -199,22 +233,23 @@ fn ids_are_read_by_their_spelling(rt: HostRuntime) -> Result<(), Fail> {
     Ok(())
 }
 
+const NUMBERS: &[(&str, Option<u32>)] = &[
+    ("0", Some(0u32)),
+    ("7", Some(7)),
+    ("10", Some(10)),
+    ("999999999", Some(999_999_999)),
+    ("", None),
+    ("00", None),
+    ("07", None),
+    ("+7", None),
+    ("7 ", None),
+    ("1_0", None),
+    ("1000000000", None),
+];
+
 #[test]
 fn numbers_have_at_most_nine_digits_and_no_leading_zero(rt: HostRuntime) -> Result<(), Fail> {
-    let cases = [
-        ("0", Some(0u32)),
-        ("7", Some(7)),
-        ("10", Some(10)),
-        ("999999999", Some(999_999_999)),
-        ("", None),
-        ("00", None),
-        ("07", None),
-        ("+7", None),
-        ("7 ", None),
-        ("1_0", None),
-        ("1000000000", None),
-    ];
-    for (digits, number) in cases {
+    for &(digits, number) in NUMBERS {
         assert_eq!(rt; number_read(digits.as_bytes()), number, "{digits}");
         assert_eq!(rt;
             is_canonical(digits.as_bytes()),

@@ -1,40 +1,26 @@
-use Rattle.std.proofs.Common.{inl, inr, sym, ◌∙◌, ap, subst, true, false, rules}
-use Rattle.overlap_rules.specs.Overlaps.{are_ascending, kind_of}
-use Rattle.overlap_rules.specs.TouchingSpans.{AreAscending}
-use Rattle.overlap_rules.proofs.TouchLemmas.{held_ascending, tries_none, tries_more, tries_found, tries_all, skipped, apart_passed, not_passed}
+use Rattle.std.proofs.Common.{◌≡◌, length, subst, arith}
+use Rattle.overlap_rules.specs.TouchingSpans.{IsFirstTouching}
+use Rattle.overlap_rules.specs.Buckets.{held_in}
+use Rattle.overlap_rules.proofs.NearLemmas.{Finds, finds_none, finds_more, finds_all, full_at}
 use Rattle.overlap_rules.proofs.span_index.SpanIndex.first_touching.Goals as goal
-use Rattle.overlap_rules.proofs.span_index.SpanIndex.first_touching.Goals.{else-ne-via-then-ne+else-test, else-ne-via-else-ne}
 
-pub loop-number-init : goal.loop-number-init
-loop-number-init g c =
-    tries_none _ c.args.self.now c.self.inside.spans.entries c.into_iter-number-iterator.result c.args.frags.now c.args.skip
-    c.self.view_is c.into_iter-number-iterator.ensures.into_iter_gives.0 c.into_iter-number-iterator.ensures.into_iter_gives.5
+pub loop-frag-init : goal.loop-frag-init
+loop-frag-init g c = finds_none _ (held_in c.self.inside.spans.entries) c.self.inside.places c.args.frags.now c.args.skip
 
-pub loop-number-preserved-then-eq : goal.loop-number-preserved-then-eq
-loop-number-preserved-then-eq g c =
-    tries_more _ c.args.self.now c.loop-number.number-iterator c.next.new.self c.args.frags.now c.args.skip c.in-Some.number.now c.in-Some.span.now
-    c.in-Some.ensures.steps (inl (skipped c.args.frags.now c.in-Some.span.now c.args.skip c.in-Some.number.now (sym c.if-eq.ensures))) c.loop-number.invariant
+pub lowest_near-found-requires-clause-some : goal.lowest_near-found-requires-clause-some
+lowest_near-found-requires-clause-some g c = full_at c.args.frags.now c.loop-frag.frag-index c.requires.ascending c.loop-frag-test.true
 
-pub kind_of-kind-requires-clause-first : goal.kind_of-kind-requires-clause-first
-kind_of-kind-requires-clause-first g c =
-    ap are_ascending c.items.ensures ∙ held_ascending c.args.self.now c.loop-number.number-iterator c.next.new.self c.args.frags.now c.args.skip c.in-Some.number.now c.in-Some.span.now
-    (subst (λ held. AreAscending held) c.self.view_is c.self.invariant) c.in-Some.ensures.steps c.loop-number.invariant
+pub lowest_near-found-requires-clause-passes : goal.lowest_near-found-requires-clause-passes
+lowest_near-found-requires-clause-passes g c = c.loop-frag.invariant.passes
 
-pub returns-then-test : goal.returns-then-test
-returns-then-test g c =
-    tries_found _ c.args.self.now c.loop-number.number-iterator c.next.new.self c.args.frags.now c.args.skip c.in-Some.number.now c.in-Some.span.now
-    c.in-Some.ensures.steps (not_passed c.args.frags.now c.in-Some.span.now c.args.skip c.in-Some.number.now (sym c.if-eq.ensures) (search rules))
-    (subst (λ kind. g.F.Fn.post c.args.test (c.in-Some.number.now, (kind, tt)) true) (c.kind_of-kind.ensures ∙ ap (λ s. kind_of s c.args.frags.now) c.items.ensures) c.if-test.ensures)
-    c.loop-number.invariant
-
-pub loop-number-preserved : goal.loop-number-preserved
-loop-number-preserved g c =
-    tries_more _ c.args.self.now c.loop-number.number-iterator c.next.new.self c.args.frags.now c.args.skip c.in-Some.number.now c.in-Some.span.now
-    c.in-Some.ensures.steps
-    (elim c.else-ne.branch [
-      | else-ne-via-then-ne+else-test w ↦ inr (subst (λ kind. g.F.Fn.post c.args.test (c.in-Some.number.now, (kind, tt)) false) (c.kind_of-kind.ensures ∙ ap (λ s. kind_of s c.args.frags.now) c.items.ensures) w.if-test.ensures)
-      | else-ne-via-else-ne w ↦ inl (apart_passed c.args.frags.now c.in-Some.span.now c.args.skip c.in-Some.number.now (search rules))
-    ]) c.loop-number.invariant
+pub loop-frag-preserved : goal.loop-frag-preserved
+loop-frag-preserved g c =
+    finds_more _ (held_in c.self.inside.spans.entries) c.self.inside.places c.args.frags.now c.loop-frag.frag-index c.args.skip c.loop-frag.found c.lowest_near-found.result
+    c.loop-frag.invariant c.lowest_near-found.ensures.passes c.lowest_near-found.ensures.lower c.lowest_near-found.ensures.others
 
 pub returns : goal.returns
-returns g c = tries_all _ c.args.self.now c.loop-number.number-iterator c.args.frags.now c.args.skip c.in-None.ensures.steps.0 c.loop-number.invariant
+returns g c =
+    let all : c.loop-frag.frag-index ≡ length c.args.frags.now = (let upto = c.loop-frag.auto.frag-index-end in let done = c.loop-frag-test.false in omega (arith, upto, done)) in
+    subst (λ held. IsFirstTouching (λ number kind answer. g.F.Fn.post c.args.test (number, (kind, tt)) answer) held c.args.frags.now c.args.skip c.loop-frag.found) c.self.view_is
+    (finds_all _ (held_in c.self.inside.spans.entries) c.self.inside.places c.args.frags.now c.args.skip c.loop-frag.found c.self.invariant
+    (subst (λ n. Finds (λ number kind answer. g.F.Fn.post c.args.test (number, (kind, tt)) answer) (held_in c.self.inside.spans.entries) c.self.inside.places c.args.frags.now n c.args.skip c.loop-frag.found) all c.loop-frag.invariant))
