@@ -4,28 +4,12 @@ use Rattle.std.specs.Option.{option_map_or}
 use Rattle.std.specs.Io.KnownBytes.{Appends}
 use Rattle.mark_base.specs.Streams.{AppendsFront, Rose}
 use Rattle.annotation_conf.specs.declared.conf_fault.ConfWhat.{ConfWhat}
-use Rattle.annotation_conf.specs.declared.conf_fault.ConfWhat.TheVariants as conf
+use Rattle.annotation_conf.specs.ConfFaultNames.{conf_name}
 use Rattle.ann_reader.specs.declared.ann_fault.AnnWhat.{AnnWhat}
 use Rattle.ann_reader.specs.declared.ann_fault.AnnWhat.TheVariants as ann
-use Rattle.annotation_http.specs.Refusals.{rule_name}
+use Rattle.layer_model.specs.RuleNames.{rule_name}
 use Rattle.annotation_cli.specs.declared.trouble.Trouble.{Trouble}
 use Rattle.annotation_cli.specs.declared.trouble.Trouble.TheVariants.{Usage, Conf, Ann, TextNotUtf8, TextTooLong, FileAbsent, FileTooLong, FileFailed, Cut, BadHead, NeedsLength, TooLarge, Encoded, Spent, ReadFault, WriteFault, Memory}
-
--- the name of a fault of a configuration
-abbrev pub conf_name : ConfWhat → List ℕ
-conf_name conf.NotUtf8 = codes "NotUtf8"
-conf_name conf.UnknownSection = codes "UnknownSection"
-conf_name conf.SectionTwice = codes "SectionTwice"
-conf_name conf.SectionMissing = codes "SectionMissing"
-conf_name conf.OutsideSection = codes "OutsideSection"
-conf_name conf.BadIndent = codes "BadIndent"
-conf_name conf.BadName = codes "BadName"
-conf_name conf.NameTwice = codes "NameTwice"
-conf_name conf.BadCount = codes "BadCount"
-conf_name conf.BadArgument = codes "BadArgument"
-conf_name conf.UnknownTypeNamed = codes "UnknownTypeNamed"
-conf_name conf.UnknownMacro = codes "UnknownMacro"
-conf_name conf.TooManyTypes = codes "TooManyTypes"
 
 -- what is said of a fault of an .ann file: its name, and the place or the rule that it carries
 abbrev pub ann_name : AnnWhat → List ℕ

@@ -1,10 +1,9 @@
 //! Why a run does not do its job, and the line and the status that say so.
 ghost use Rattle.std.specs.Prelude.{◌≡◌, ◌++◌, IfOk, codes, decimal, option_map, string_bytes};
-ghost use Rattle.annotation_cli.specs.Troubles.{ann_name, at_line, conf_name, fixed_line, numbered_line, status_of};
+ghost use Rattle.annotation_cli.specs.Troubles.{ann_name, at_line, fixed_line, numbered_line, status_of};
 
 use ann_reader::AnnWhat;
 use annotation_conf::ConfWhat;
-use annotation_http::rule_name;
 use mark_base::Memory;
 use std::alloc::Global;
 
@@ -47,27 +46,6 @@ pub enum Trouble {
     Memory,
 }
 
-/// The name of a fault of a configuration.
-fn conf_name(what: ConfWhat) -> &'static str
-    ensures { result.now ≡ conf_name what }
-{
-    match what {
-        ConfWhat::NotUtf8 => "NotUtf8",
-        ConfWhat::UnknownSection => "UnknownSection",
-        ConfWhat::SectionTwice => "SectionTwice",
-        ConfWhat::SectionMissing => "SectionMissing",
-        ConfWhat::OutsideSection => "OutsideSection",
-        ConfWhat::BadIndent => "BadIndent",
-        ConfWhat::BadName => "BadName",
-        ConfWhat::NameTwice => "NameTwice",
-        ConfWhat::BadCount => "BadCount",
-        ConfWhat::BadArgument => "BadArgument",
-        ConfWhat::UnknownTypeNamed => "UnknownTypeNamed",
-        ConfWhat::UnknownMacro => "UnknownMacro",
-        ConfWhat::TooManyTypes => "TooManyTypes",
-    }
-}
-
 /// What is said of a fault of an .ann file: its name, and the place or the rule that it carries.
 fn ann_name(alloc: Global, what: AnnWhat) -> Result<String, Memory>
     ensures { IfOk result (λ name. string_bytes name ≡ ann_name what) }
@@ -79,7 +57,7 @@ fn ann_name(alloc: Global, what: AnnWhat) -> Result<String, Memory>
         AnnWhat::IdTwice => String::from_str(alloc, "IdTwice")?,
         AnnWhat::WrongText(place) => format!(in alloc; "WrongText {place}")?,
         AnnWhat::Broken(rule) => {
-            let name = rule_name(rule);
+            let name = rule.name();
             format!(in alloc; "Broken {name}")?
         }
     })
@@ -139,7 +117,7 @@ impl Trouble {
         ensures { IfOk result (λ text. string_bytes text ≡ numbered_line self) }
     {
         match self {
-            Trouble::Conf { line, what } => at_line(alloc, "conf", line, conf_name(what)),
+            Trouble::Conf { line, what } => at_line(alloc, "conf", line, what.name()),
             Trouble::Ann { line, what } => {
                 let name = ann_name(alloc, what)?;
                 at_line(alloc, "ann", line, &name)

@@ -3,11 +3,12 @@ ghost use Rattle.std.specs.Prelude.{◌≡◌, ◌++◌, codes, decimal, length,
 ghost use Rattle.http.specs.StatusCode.{IsStatusCode};
 ghost use Rattle.annotation_http.specs.Desk.{counts_answer, lines_answer, made_answer};
 
-use crate::refusals::{id_text, json_answer};
+use crate::refusals::json_answer;
 use ann_writer::ann_bytes;
 use annotation_conf::Conf;
 use char_documents::Doc;
 use http_wire::{Answer, Media};
+use layer_core::id_text;
 use layer_undo::Desk;
 use mark_base::{AnnId, Memory};
 use serde_json::json;

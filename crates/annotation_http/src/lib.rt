@@ -21,5 +21,4 @@ mod route;
 mod session;
 
 pub use crate::desk::FirstDesk;
-pub use crate::refusals::rule_name;
 pub use crate::session::{Ending, serve_link};

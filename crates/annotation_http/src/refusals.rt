@@ -3,111 +3,18 @@ ghost use Rattle.std.specs.Prelude.{◌≡◌, ◌++◌, ◌∷◌, [], codes, d
 ghost use Rattle.json.specs.Print.{quoted};
 ghost use Rattle.http.specs.StatusCode.{IsStatusCode};
 ghost use Rattle.serde_json.specs.View.{view};
-ghost use Rattle.annotation_http.specs.Refusals.{fault_answer, id_text, line_members, line_refusal, named_by_rule, refusal_of, role_text, rule_answer, rule_name, rule_status};
+ghost use Rattle.layer_model.specs.RuleNames.{rule_name};
+ghost use Rattle.layer_core.specs.RuleNames.{named_by_rule};
+ghost use Rattle.annotation_http.specs.Refusals.{fault_answer, line_members, line_refusal, refusal_of, rule_answer, rule_status};
 
 use ann_reader::AnnWhat;
 use annotation_conf::Conf;
 use http_wire::{Answer, Media};
-use layer_model::{RoleAt, Rule};
-use mark_base::{AnnId, Bytes, Memory, Text};
+use layer_core::named_by_rule;
+use layer_model::Rule;
+use mark_base::{Bytes, Memory, Text};
 use serde_json::{Value, json};
 use std::alloc::Global;
-
-/// The name of a rule, without what it names.
-pub fn rule_name(rule: Rule) -> &'static str
-    ensures { result.now ≡ rule_name rule }
-{
-    match rule {
-        Rule::UnknownType => "UnknownType",
-        Rule::NotForUse => "NotForUse",
-        Rule::BadFragments => "BadFragments",
-        Rule::OutOfText => "OutOfText",
-        Rule::SpanTooLong => "SpanTooLong",
-        Rule::NoSuch(_) => "NoSuch",
-        Rule::WrongKind(_) => "WrongKind",
-        Rule::UnknownRole => "UnknownRole",
-        Rule::ArgumentType(_) => "ArgumentType",
-        Rule::TooMany(_) => "TooMany",
-        Rule::NoSuchArgument => "NoSuchArgument",
-        Rule::UnknownValue => "UnknownValue",
-        Rule::TooDeep => "TooDeep",
-        Rule::SameSpan(_) => "SameSpan",
-        Rule::SameEvent(_) => "SameEvent",
-        Rule::SameRelation(_) => "SameRelation",
-        Rule::AttributeThere(_) => "AttributeThere",
-        Rule::EquivMembers => "EquivMembers",
-        Rule::OverlapRefused(_) => "OverlapRefused",
-        Rule::InUse(_) => "InUse",
-        Rule::BadText => "BadText",
-        Rule::LayerFull(_) => "LayerFull",
-        Rule::IdsUsedUp(_) => "IdsUsedUp",
-        Rule::TooFew(_, _) => "TooFew",
-        Rule::DeskFull => "DeskFull",
-        Rule::NothingToUndo => "NothingToUndo",
-        Rule::NothingToRedo => "NothingToRedo",
-    }
-}
-
-/// An ID, as it is spelt in an .ann file.
-pub(crate) fn id_text(alloc: Global, id: AnnId) -> Result<Text, Memory>
-    ensures { IfOk result (λ made. made ≡ id_text id) }
-{
-    let mut out = String::from_str(alloc, id.kind.as_str())?;
-    out.push_str(id.number.to_string(alloc)?.as_str())?;
-    Ok(Text::from_string(out))
-}
-
-/// A role by its name.
-fn role_text(conf: &Conf, role: RoleAt) -> &str
-    ensures { result.now ≡ role_text conf.now role }
-{
-    match role {
-        RoleAt::Event(kind, place) => match conf.role_name(kind, place) {
-            Some(name) => name.text(),
-            None => "",
-        },
-        RoleAt::Relation(relation, second) => match conf.relation_role(relation, second) {
-            Some(name) => name.text(),
-            None => "",
-        },
-        RoleAt::Attribute => "Arg",
-    }
-}
-
-/// An event and a role of it.
-fn event_role(alloc: Global, conf: &Conf, event: AnnId, role: RoleAt) -> Result<Text, Memory>
-    ensures { IfOk result (λ made. made ≡ id_text event ++ (codes " " ++ role_text conf.now role)) }
-{
-    let mut out = String::from_str(alloc, event.kind.as_str())?;
-    out.push_str(event.number.to_string(alloc)?.as_str())?;
-    out.push_str(" ")?;
-    out.push_str(role_text(conf, role))?;
-    Ok(Text::from_string(out))
-}
-
-/// What a rule names.
-fn named_by_rule(alloc: Global, conf: &Conf, rule: Rule) -> Result<Option<Text>, Memory>
-    ensures { IfOk result (λ named. named ≡ named_by_rule conf.now rule) }
-{
-    let named = match rule {
-        Rule::NoSuch(id)
-        | Rule::WrongKind(id)
-        | Rule::SameSpan(id)
-        | Rule::SameEvent(id)
-        | Rule::SameRelation(id)
-        | Rule::AttributeThere(id)
-        | Rule::OverlapRefused(id)
-        | Rule::InUse(id) => id_text(alloc, id),
-        Rule::ArgumentType(role) | Rule::TooMany(role) => Text::of(alloc, role_text(conf, role)),
-        Rule::LayerFull(kind) | Rule::IdsUsedUp(kind) => Text::of(alloc, kind.as_str()),
-        Rule::TooFew(event, role) => event_role(alloc, conf, event, role),
-        _ => return Ok(None),
-    };
-    match named {
-        Ok(named) => Ok(Some(named)),
-        Err(Memory) => Err(Memory),
-    }
-}
 
 /// The status of a broken rule.
 fn rule_status(rule: Rule) -> u16
@@ -160,7 +67,7 @@ pub(crate) fn rule_answer(alloc: Global, conf: &Conf, rule: Rule) -> Result<Answ
     ensures status { IfOk result (λ answer. IsStatusCode answer.status) }
 {
     let named = named_by_rule(alloc, conf, rule)?;
-    refusal_of(alloc, rule_status(rule), rule_name(rule), &named)
+    refusal_of(alloc, rule_status(rule), rule.name(), &named)
 }
 
 /// The value of a refusal of a file at a line, which names something.
@@ -217,7 +124,7 @@ fn broken_line(alloc: Global, conf: &Conf, line: u32, rule: Rule) -> Result<Answ
     ensures { IfOk result (λ answer. answer ≡ line_refusal line (rule_name rule) (named_by_rule conf.now rule)) }
 {
     let named = named_by_rule(alloc, conf, rule)?;
-    line_refusal(alloc, line, rule_name(rule), &named)
+    line_refusal(alloc, line, rule.name(), &named)
 }
 
 /// A fault of an .ann file.

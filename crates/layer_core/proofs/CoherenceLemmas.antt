@@ -36,7 +36,7 @@ use Rattle.layer_core.specs.Ids.{ids_of}
 use Rattle.layer_core.specs.Places.{by_place, first_place}
 use Rattle.layer_core.specs.Targets.{is_argument, is_attribute_target, is_member, is_normal_target, is_note_target}
 use Rattle.layer_core.specs.Rules.{where_so, named_by, first_missing, Wanted, argument, member, first_unwanted, wanted_by}
-use Rattle.layer_core.specs.PairRules.{begins_chain, is_arg, is_event_id, letter_is_event, lower_pair, same_attributes, same_bag, same_events, same_relations, same_spans, attribute_there, too_deep}
+use Rattle.layer_core.specs.PairRules.{begins_longer_chain, is_arg, is_event_id, letter_is_event, lower_pair, same_attributes, same_bag, same_events, same_relations, same_spans, attribute_there, too_deep}
 use Rattle.layer_core.specs.WellFormed.{IsWellFormed, Never}
 use Rattle.mark_base.proofs.IdLemmas.{id_at-id}
 use Rattle.layer_core.proofs.LawLemmas.{never}
@@ -222,29 +222,29 @@ leads_same p q same (arg ∷ args) =
     ]
 
 -- a chain of one event more than so many is a chain of more than so many
-one_more : (layer : Annotations) (events n : ℕ) → chain_of layer (suc events) n ≡ begins_chain layer events n
-unfolding chain_of begins_chain
+one_more : (layer : Annotations) (events n : ℕ) → chain_of layer (suc events) n ≡ begins_longer_chain layer events n
+unfolding chain_of begins_longer_chain
 one_more layer zero n = refl
 one_more layer (suc events) n =
     elim (finite.get layer.events n) as (λ o. list_any (chain_of layer (suc events)) (option_map_or (λ event. whole.events_among event.args) o [])
-    ≡ option_map_or (λ event. list_any (λ arg. is_event_id arg.target && begins_chain layer events arg.target.number) event.args) o false) [
+    ≡ option_map_or (λ event. list_any (λ arg. is_event_id arg.target && begins_longer_chain layer events arg.target.number) event.args) o false) [
       | None ↦ refl
-      | Some event ↦ leads_same (chain_of layer (suc events)) (begins_chain layer events) (one_more layer events) event.args
+      | Some event ↦ leads_same (chain_of layer (suc events)) (begins_longer_chain layer events) (one_more layer events) event.args
     ]
 
-no_event : (layer : Annotations) (events n : ℕ) → finite.get layer.events n ≡ None → begins_chain layer (suc events) n ≡ false
-unfolding begins_chain
-no_event layer events n e = ap (λ o. option_map_or (λ event. list_any (λ arg. is_event_id arg.target && begins_chain layer events arg.target.number) event.args) o false) e
+no_event : (layer : Annotations) (events n : ℕ) → finite.get layer.events n ≡ None → begins_longer_chain layer (suc events) n ≡ false
+unfolding begins_longer_chain
+no_event layer events n e = ap (λ o. option_map_or (λ event. list_any (λ arg. is_event_id arg.target && begins_longer_chain layer events arg.target.number) event.args) o false) e
 
 chains_short : (conf : Configuration) (characters : ℕ) (layer : Annotations) → IsLayer layer → IsWellFormed conf characters layer → whole.ChainsAreShort layer
 chains_short conf characters layer is kept n = one_more layer 16 n ∙ split (finite.get layer.events n) refl
   where
-    split : (o : Option Event) → finite.get layer.events n ≡ o → begins_chain layer 16 n ≡ false
+    split : (o : Option Event) → finite.get layer.events n ≡ o → begins_longer_chain layer 16 n ≡ false
     split None e = no_event layer 15 n e
     split (Some event) e =
         let mark : mark_of layer letter.Event n ≡ Some (marked.Event event) = ap (option_map marked.Event) e in
-        let none : where_so (begins_chain layer 16 (min n 999999999)) TooDeep ≡ None = of_mark (too_deep layer) (λ _ _. None) layer is kept.shallow letter.Event n (marked.Event event) mark in
-        sym (ap (begins_chain layer 16) (min_is n (fits layer is letter.Event n (marked.Event event) mark))) ∙ not_so (begins_chain layer 16 (min n 999999999)) TooDeep none
+        let none : where_so (begins_longer_chain layer 16 (min n 999999999)) TooDeep ≡ None = of_mark (too_deep layer) (λ _ _. None) layer is kept.shallow letter.Event n (marked.Event event) mark in
+        sym (ap (begins_longer_chain layer 16) (min_is n (fits layer is letter.Event n (marked.Event event) mark))) ∙ not_so (begins_longer_chain layer 16 (min n 999999999)) TooDeep none
 
 -- ---- no two are alike
 

@@ -3,7 +3,7 @@ use Rattle.std.specs.Prelude.{◌≡◌, ℕ, Bool, List, is_some}
 use Rattle.std.specs.Ordering.{nat_cmp}
 use Rattle.std.specs.FinMap as finite
 use Rattle.layer_model.specs.Annotations.{Annotations}
-use Rattle.layer_core.specs.PairRules.{begins_chain}
+use Rattle.layer_core.specs.PairRules.{begins_longer_chain}
 
 -- a number is among the entries of a map
 abbrev pub is_held : {V : Type 0} → List (ℕ × V) → ℕ → Bool
@@ -11,4 +11,4 @@ is_held entries number = is_some (finite.get (finite.from_entries {R = nat_cmp} 
 
 -- the numbers that are held are those of the events that begin a chain of more than so many events
 abbrev pub HoldsChains : {V : Type 0} → Annotations → ℕ → List (ℕ × V) → Type 0
-HoldsChains layer events entries = (number : ℕ) → is_held entries number ≡ begins_chain layer events number
+HoldsChains layer events entries = (number : ℕ) → is_held entries number ≡ begins_longer_chain layer events number

@@ -10,6 +10,7 @@ pub mod Ids
 pub mod Made
 pub mod PairRules
 pub mod Places
+pub mod RuleNames
 pub mod Rules
 pub mod SpanRules
 pub mod Targets

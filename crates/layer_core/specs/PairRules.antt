@@ -95,14 +95,14 @@ abbrev pub is_event_id : AnnId → Bool
 is_event_id id = letter_is_event id.kind
 
 -- the event of a number begins a chain of more events than so many, each later one an argument of the one before it
-unfoldable pub begins_chain : Annotations → ℕ → ℕ → Bool
-begins_chain layer zero number = finite.contains_key layer.events number
-begins_chain layer (suc events) number =
-    option_map_or (λ event. list_any (λ arg. is_event_id arg.target && begins_chain layer events arg.target.number) event.args) (finite.get layer.events number) false
+unfoldable pub begins_longer_chain : Annotations → ℕ → ℕ → Bool
+begins_longer_chain layer zero number = finite.contains_key layer.events number
+begins_longer_chain layer (suc events) number =
+    option_map_or (λ event. list_any (λ arg. is_event_id arg.target && begins_longer_chain layer events arg.target.number) event.args) (finite.get layer.events number) false
 
 -- the event begins a chain of more than 16 events
 abbrev pub too_deep : Annotations → AnnId → Mark → Option Rule
-too_deep layer id (Event event) = where_so (begins_chain layer 16 id.number) TooDeep
+too_deep layer id (Event event) = where_so (begins_longer_chain layer 16 id.number) TooDeep
 too_deep layer id mark = None
 
 -- some line of a relation type admits two types in either order

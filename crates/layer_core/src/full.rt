@@ -12,6 +12,9 @@ use layer_model::{Class, Flaw, FlawPlace, Layer, Rule};
 use mark_base::Kind;
 use std::collections::BTreeMap;
 
+/// The annotations of one sort, and the classes, of the fullest layer.
+const MOST: u32 = 10_000;
+
 /// The number of the annotation of this index among those of a letter. Cost: the index.
 fn number_at<V>(map: &BTreeMap<u32, V>, index: u32) -> Option<u32>
     ensures { result ≡ slice_get (finite.keys (finite.from_entries {R = nat_cmp} map.now.entries)) index }
@@ -41,12 +44,12 @@ fn full<V>(kind: Kind, counted: Kind, map: &BTreeMap<u32, V>, index: u32) -> Opt
 fn full_classes(classes: &[Class]) -> Option<Flaw>
     ensures { result ≡ first_from 0 classes_full classes.now }
 {
-    if classes.len() <= 10000 {
+    if classes.len() <= MOST as usize {
         return None;
     }
     Some(Flaw {
         rule: Rule::LayerFull(Kind::Text),
-        at: FlawPlace::Class(10000),
+        at: FlawPlace::Class(MOST),
     })
 }
 
@@ -56,14 +59,14 @@ pub(crate) fn full_flaw(layer: &Layer) -> Option<Flaw>
     ensures { result ≡ first_place (at_layer_full layer.now) (places layer.now) }
 {
     layer.keeps();
-    let left = 10000u32.saturating_sub(layer.count(Kind::Attribute));
-    let spans = full(Kind::Text, Kind::Text, layer.spans(), 10000);
-    let events = full(Kind::Event, Kind::Event, layer.events(), 10000);
-    let relations = full(Kind::Relation, Kind::Relation, layer.relations(), 10000);
-    let attributes = full(Kind::Attribute, Kind::Attribute, layer.attributes(), 10000);
+    let left = MOST.saturating_sub(layer.count(Kind::Attribute));
+    let spans = full(Kind::Text, Kind::Text, layer.spans(), MOST);
+    let events = full(Kind::Event, Kind::Event, layer.events(), MOST);
+    let relations = full(Kind::Relation, Kind::Relation, layer.relations(), MOST);
+    let attributes = full(Kind::Attribute, Kind::Attribute, layer.attributes(), MOST);
     let legacy = full(Kind::Legacy, Kind::Attribute, layer.legacy(), left);
-    let normals = full(Kind::Normal, Kind::Normal, layer.normals(), 10000);
-    let notes = full(Kind::Note, Kind::Note, layer.notes(), 10000);
+    let normals = full(Kind::Normal, Kind::Normal, layer.normals(), MOST);
+    let notes = full(Kind::Note, Kind::Note, layer.notes(), MOST);
     let later = normals.or(notes.or(full_classes(layer.classes())));
     let marked = attributes.or(legacy.or(later));
     spans.or(events.or(relations.or(marked)))

@@ -110,11 +110,14 @@ pub(crate) fn out_of_text(characters: u32, span: &Span) -> Option<Rule>
     where_so(characters < last_end(span.frags.items()), Rule::OutOfText)
 }
 
+/// The characters that a span reaches over at most, from its start to its end.
+pub(crate) const LONGEST_REACH: u32 = 10_000;
+
 /// The rule on spans that reach too far.
 pub(crate) fn span_too_long(span: &Span) -> Option<Rule>
     ensures { result ≡ span_too_long (Mark.Span span.now) }
 {
-    where_so(reach(span.frags.items()) > 10000, Rule::SpanTooLong)
+    where_so(reach(span.frags.items()) > LONGEST_REACH, Rule::SpanTooLong)
 }
 
 /// The rule on an ID that is not in the layer.

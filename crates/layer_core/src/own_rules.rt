@@ -15,7 +15,9 @@ use crate::Command;
 use crate::class_rules::are_bad_members;
 use crate::drafts::is_arg;
 use crate::finds::{attribute_on, first_note, first_reference, in_use, trigger_in_use};
-use crate::mark_rules::{last_end, missing, missing_ids, unwanted, unwanted_members, where_so};
+use crate::mark_rules::{
+    LONGEST_REACH, last_end, missing, missing_ids, unwanted, unwanted_members, where_so,
+};
 use crate::names::{
     arg_named, barred, event_named, no_equivalence, role_unknown, undeclared_attribute,
     undeclared_relation, undeclared_type,
@@ -87,7 +89,7 @@ fn frags_rule(characters: u32, frags: &[Frag]) -> Option<Rule>
     ensures { result ≡ frags_rule characters frags.now }
 {
     let fits = !frags.is_empty() && are_ascending(frags);
-    let long = where_so(reach(frags) > 10000, Rule::SpanTooLong);
+    let long = where_so(reach(frags) > LONGEST_REACH, Rule::SpanTooLong);
     let out = where_so(characters < last_end(frags), Rule::OutOfText);
     where_so(!fits, Rule::BadFragments).or(out.or(long))
 }

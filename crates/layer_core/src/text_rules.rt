@@ -25,6 +25,9 @@ fn has_whitespace(text: &str) -> bool
     text.chars().any(|c| c.is_whitespace())
 }
 
+/// The characters of the longest text of a note or a normalization.
+const LONGEST_TEXT: usize = 4_000;
+
 /// How many characters a text has.
 fn char_count(text: &str) -> usize
     ensures { result ≡ length (chars text.now) }
@@ -37,7 +40,7 @@ fn char_count(text: &str) -> usize
 pub fn is_bad_text(text: &str) -> bool
     ensures { result ≡ is_bad_text text.now }
 {
-    char_count(text) > 4000 || breaks_line(text.as_bytes())
+    char_count(text) > LONGEST_TEXT || breaks_line(text.as_bytes())
 }
 
 /// Whether an entry of a store may not stand: it is empty, or has white space. Cost: the entry.
