@@ -10,7 +10,7 @@ use Rattle.std.proofs.lemmas.List.Sums.{count_by-le-length}
 use Rattle.annotation_conf.specs.Configurations.{Configuration}
 use Rattle.layer_model.specs.Annotations.{Annotations}
 use Rattle.ann_reader.specs.declared.ann_fault.AnnFault.{AnnFault}
-use Rattle.ann_reader.specs.declared.ann_fault.AnnFault.TheVariants.{At}
+use Rattle.ann_reader.specs.declared.ann_fault.AnnFault.TheVariants.{At, Memory}
 use Rattle.ann_reader.specs.declared.ann_fault.AnnWhat.TheVariants.{NotUtf8}
 use Rattle.ann_reader.specs.Lines.{Line, is_blank, lines_from, lines_of}
 use Rattle.ann_reader.specs.declared.reader.Fault.{Fault as FaultValue}
@@ -84,6 +84,10 @@ answer_told conf text bytes (Err fault) valid told = text_told conf text bytes f
 pub first_told : (a b : Option Fault) (fault : FaultValue) (answer : AnnFault) → Some (seen_fault fault) ≡ a → answer ≡ At fault.line fault.what → Tells (option_or a b) answer
 first_told a b fault answer e same = subst (Tells (option_or a b)) (sym same) (ap (λ o. option_or o b) (sym e))
 
+pub first_refused : (a b : Option Fault) (answer : AnnFault) → Tells a answer → Tells (option_or a b) answer
+first_refused a b (At line what) e = ap (λ o. option_or o b) e
+first_refused a b Memory e = tt
+
 -- a later phase refuses
 pub later_told : (a b : Option Fault) (fault : FaultValue) (answer : AnnFault) → None ≡ a → Some (seen_fault fault) ≡ b → answer ≡ At fault.line fault.what → Tells (option_or a b) answer
 later_told a b fault answer none e same = subst (Tells (option_or a b)) (sym same) (ap (λ o. option_or o b) (sym none) ∙ sym e)
@@ -93,11 +97,11 @@ pub none_told : (a b : Option Fault) → None ≡ a → None ≡ b → option_or
 none_told a b first second = ap (λ o. option_or o b) (sym first) ∙ sym second
 
 -- the lines of a text are at fault
-pub lines_told : (conf : Configuration) (text : List ℕ) (known lines : List Line) (fault : FaultValue) (answer : AnnFault) → known ≡ lines
-    → Some (seen_fault fault) ≡ first_line_fault conf known [] known → answer ≡ At fault.line fault.what → Tells (lines_fault conf text lines) answer
-lines_told conf text known lines fault answer same e told =
+pub lines_refused : (conf : Configuration) (text : List ℕ) (known lines : List Line) (answer : AnnFault) → known ≡ lines
+    → Tells (first_line_fault conf known [] known) answer → Tells (lines_fault conf text lines) answer
+lines_refused conf text known lines answer same told =
     subst (λ ls. Tells (lines_fault conf text ls) answer) same
-    (first_told (first_line_fault conf known [] known) (option_or (layer_fault conf (length text) known) (first_text_fault text known)) fault answer e told)
+    (first_refused (first_line_fault conf known [] known) (option_or (layer_fault conf (length text) known) (first_text_fault text known)) answer told)
 
 -- lines without a fault of their own: their layer or a text is at fault, or none
 pub rest_told : (conf : Configuration) (text : List ℕ) (known lines : List Line) (answer : Result Annotations AnnFault) → known ≡ lines → None ≡ first_line_fault conf known [] known

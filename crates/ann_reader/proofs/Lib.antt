@@ -15,6 +15,7 @@ pub mod MemberLemmas
 pub mod NamedLemmas
 pub mod PartLemmas
 pub mod PassLemmas
+mod PlainLemmas
 pub mod ReferenceTexts
 pub mod RoleLemmas
 pub mod RoomLemmas

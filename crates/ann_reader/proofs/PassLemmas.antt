@@ -1,5 +1,5 @@
 -- One line of the pass that seeks the first fault.
-use Rattle.std.proofs.Common.{◌≡◌, ℕ, List, [], ◌∷◌, ◌++◌, ◌∙◌, ap, Option, Some, None, slice_index}
+use Rattle.std.proofs.Common.{◌≡◌, ℕ, List, [], ◌∷◌, ◌++◌, ◌∙◌, ap, refl, Option, Some, None, slice_index}
 use Rattle.std.specs.Option.{option_or, option_map}
 use Rattle.annotation_conf.specs.Configurations.{Configuration}
 use Rattle.ann_reader.specs.declared.ann_fault.AnnWhat.{AnnWhat}
@@ -21,3 +21,13 @@ pub fault_later : (conf : Configuration) (all before : List Line) (line : Line) 
     → first_line_fault conf all (before ++ (line ∷ [])) more ≡ first_line_fault conf all before (line ∷ more)
 fault_later conf all before line more n count e =
     ap (told_by line.number (first_line_fault conf all (before ++ (line ∷ [])) more)) (e ∙ ap (λ k. line_fault conf all k line) count)
+
+-- ---- the first of three
+
+pub or_later : {X : Type 0} (a b c : Option X) → option_or (option_or a b) c ≡ option_or a (option_or b c)
+or_later None b c = refl
+or_later (Some x) b c = refl
+
+pub or_none : {X : Type 0} (a : Option X) → option_or a None ≡ a
+or_none None = refl
+or_none (Some x) = refl

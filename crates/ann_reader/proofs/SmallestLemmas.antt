@@ -1,11 +1,10 @@
 -- The classes of a file are what its lines bring together, and no more.
-use Rattle.std.proofs.Common.{◌≡◌, ℕ, ◌+◌, ◌<◌, ◌==◌, ◌&&◌, ◌||◌, not, Bool, true, false, cond, eq-eqb, List, [], ◌∷◌, ◌++◌, length, refl, sym, ◌∙◌, ap, subst, Some, None, inl, inr, arith}
+use Rattle.std.proofs.Common.{◌≡◌, ℕ, ◌<◌, ◌==◌, ◌||◌, not, Bool, true, false, cond, eq-eqb, List, [], ◌∷◌, ◌++◌, length, refl, sym, ◌∙◌, ap, subst, Some, None, inl, inr, arith}
 use Rattle.std.specs.List.{AllByRecursion, Contains, list_any, fold, cons_option}
 use Rattle.std.proofs.lemmas.Bool.{or_cases, and_parts, and_from, eqb-true, false≢true}
 use Rattle.std.proofs.lemmas.List.Elements.{All-contains_itself, recursion_from_All}
 use Rattle.std.proofs.lemmas.List.Folds.{list_any-append}
 use Rattle.mark_base.specs.declared.ann_id.AnnId.{AnnId}
-use Rattle.mark_base.specs.declared.places.RelId.{RelId}
 use Rattle.annotation_conf.specs.Configurations.{Configuration}
 use Rattle.layer_model.specs.declared.class.Class.{Class}
 use Rattle.layer_model.specs.Annotations.{Annotations}
@@ -16,7 +15,7 @@ use Rattle.ann_reader.specs.Lines.{Line, lines_of}
 use Rattle.ann_reader.specs.Forms.{form_of}
 use Rattle.ann_reader.specs.Marks.{Said, said_of}
 use Rattle.ann_reader.specs.AnnFiles.{IsAnn, said_in, joined_too, classes_of}
-use Rattle.ann_reader.specs.Smallest.{holds_line, is_member_on, Leads, AreLinked, IsLinkedClass}
+use Rattle.ann_reader.specs.Smallest.{holds_line, Leads, AreLinked, IsLinkedClass}
 use Rattle.ann_reader.proofs.CoverLemmas.{Covered, all_covered}
 
 -- ---- chains

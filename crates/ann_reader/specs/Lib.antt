@@ -7,9 +7,11 @@ pub mod Forms
 pub mod Known
 pub mod LineFaults
 pub mod LineShows
+pub mod LineTypes
 pub mod Lines
 pub mod Marks
 pub mod NamesRead
+pub mod PlainTexts
 pub mod ReadFaults
 pub mod References
 pub mod Roles

@@ -1,7 +1,6 @@
 -- The classes of a file are the smallest disjoint sets that its lines allow: a class is what lines of its type bring together, and no more.
 use Rattle.std.specs.Prelude.{◌≡◌, ℕ, ◌<◌, ◌==◌, ◌&&◌, Bool, true, List, [], ◌∷◌, length}
 use Rattle.std.specs.List.{AllByRecursion, Contains, list_all}
-use Rattle.mark_base.specs.declared.ann_id.AnnId.{AnnId}
 use Rattle.layer_model.specs.declared.class.Class.{Class}
 use Rattle.layer_model.specs.Classes.{has_rank, is_among}
 use Rattle.ann_reader.specs.Marks.{Said}

@@ -1,9 +1,11 @@
 //! What the words of a line name in a configuration.
-ghost use Rattle.std.specs.Prelude.{◌≡◌, IfOk, Some, option_map};
+ghost use Rattle.std.specs.Prelude.{◌≡◌, IfOk, Some, None, option_map};
+ghost use Rattle.ann_reader.specs.LineTypes.{HasTypes};
 ghost use Rattle.annotation_conf.specs.Lookups.{value_named};
 ghost use Rattle.ann_reader.specs.NamesRead.{by_name, type_read, where_event, event_read, relation_read, attribute_read, value_read};
-ghost use Rattle.ann_reader.specs.FormShows.{seen_text, seen_value};
+ghost use Rattle.ann_reader.specs.FormShows.{seen_form, seen_text, seen_value};
 
+use crate::form::Form;
 use annotation_conf::Conf;
 use mark_base::{AttrId, Memory, Name, NameFault, RelId, TypeId};
 use std::alloc::Global;
@@ -20,7 +22,7 @@ fn name_read(alloc: Global, word: &str) -> Result<Option<Name>, Memory>
 }
 
 /// The type of a name.
-pub(crate) fn type_read(alloc: Global, conf: &Conf, word: &str) -> Result<Option<TypeId>, Memory>
+fn type_read(alloc: Global, conf: &Conf, word: &str) -> Result<Option<TypeId>, Memory>
     ensures { IfOk result (λ id. id ≡ type_read conf.now word.now) }
 {
     match name_read(alloc, word)? {
@@ -38,7 +40,7 @@ fn where_event(conf: &Conf, id: TypeId) -> Option<TypeId>
 }
 
 /// The event type of a name.
-pub(crate) fn event_read(alloc: Global, conf: &Conf, word: &str) -> Result<Option<TypeId>, Memory>
+fn event_read(alloc: Global, conf: &Conf, word: &str) -> Result<Option<TypeId>, Memory>
     ensures { IfOk result (λ id. id ≡ event_read conf.now word.now) }
 {
     match type_read(alloc, conf, word)? {
@@ -48,7 +50,7 @@ pub(crate) fn event_read(alloc: Global, conf: &Conf, word: &str) -> Result<Optio
 }
 
 /// The relation type of a name.
-pub(crate) fn relation_read(alloc: Global, conf: &Conf, word: &str) -> Result<Option<RelId>, Memory>
+fn relation_read(alloc: Global, conf: &Conf, word: &str) -> Result<Option<RelId>, Memory>
     ensures { IfOk result (λ id. option_map (λ relation. relation.n) id ≡ relation_read conf.now word.now) }
 {
     match name_read(alloc, word)? {
@@ -58,16 +60,70 @@ pub(crate) fn relation_read(alloc: Global, conf: &Conf, word: &str) -> Result<Op
 }
 
 /// The attribute of a name.
-pub(crate) fn attribute_read(
-    alloc: Global,
-    conf: &Conf,
-    word: &str,
-) -> Result<Option<AttrId>, Memory>
+fn attribute_read(alloc: Global, conf: &Conf, word: &str) -> Result<Option<AttrId>, Memory>
     ensures { IfOk result (λ id. option_map (λ attribute. attribute.n) id ≡ attribute_read conf.now word.now) }
 {
     match name_read(alloc, word)? {
         Some(name) => Ok(conf.attribute(&name)),
         None => Ok(None),
+    }
+}
+
+/// The types that a line names, each as the table has it that the line needs.
+#[derive(Clone, Copy)]
+pub(crate) struct LineTypes {
+    /// Of a span, or the event type of an event.
+    pub marked: Option<TypeId>,
+    /// Of a relation, or of a class.
+    pub related: Option<RelId>,
+    /// Of an attribute.
+    pub attributed: Option<AttrId>,
+}
+
+/// The type of a span or an event.
+fn of_mark(marked: Option<TypeId>) -> LineTypes
+    ensures { result ≡ record { marked = marked; related = None; attributed = None } }
+{
+    LineTypes {
+        marked,
+        related: None,
+        attributed: None,
+    }
+}
+
+/// The type of a relation or a class.
+fn of_relation(related: Option<RelId>) -> LineTypes
+    ensures { result ≡ record { marked = None; related = related; attributed = None } }
+{
+    LineTypes {
+        marked: None,
+        related,
+        attributed: None,
+    }
+}
+
+/// The type of an attribute.
+fn of_attribute(attributed: Option<AttrId>) -> LineTypes
+    ensures { result ≡ record { marked = None; related = None; attributed = attributed } }
+{
+    LineTypes {
+        marked: None,
+        related: None,
+        attributed,
+    }
+}
+
+/// The types that a line names. Cost: a look-up.
+pub(crate) fn line_types(alloc: Global, conf: &Conf, form: &Form) -> Result<LineTypes, Memory>
+    ensures { IfOk result (HasTypes conf.now (seen_form form.now)) }
+{
+    match form {
+        Form::Bad | Form::Normal { .. } | Form::Note { .. } => Ok(of_mark(None)),
+        Form::Text { kind, .. } => Ok(of_mark(type_read(alloc, conf, kind)?)),
+        Form::Event { kind, .. } => Ok(of_mark(event_read(alloc, conf, kind)?)),
+        Form::Relation { kind, .. } => Ok(of_relation(relation_read(alloc, conf, kind)?)),
+        Form::Attribute { kind, .. } => Ok(of_attribute(attribute_read(alloc, conf, kind)?)),
+        Form::Class { kind, .. } => Ok(of_relation(relation_read(alloc, conf, kind)?)),
     }
 }
 

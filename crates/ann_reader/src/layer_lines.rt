@@ -1,9 +1,11 @@
 //! The layer that lines say.
 ghost use Rattle.std.specs.Prelude.{◌≡◌, ◌<◌, length, option_map, OnOk, IfSome};
 ghost use Rattle.ann_reader.specs.AnnFaults.{with_read, with_said, with_form};
+ghost use Rattle.ann_reader.specs.LineTypes.{HasTypes};
 ghost use Rattle.ann_reader.specs.FormShows.{NamesSome, seen_form, seen_said};
 ghost use Rattle.layer_model.specs.Layers.{is_of_kind};
 
+use crate::declared_names::LineTypes;
 use crate::form::Form;
 use crate::marks::{Said, mark_of, said_of};
 use crate::references::own_id;
@@ -57,13 +59,15 @@ pub(crate) fn add_line(
     conf: &Conf,
     layer: &mut Layer,
     form: &Form,
+    types: &LineTypes,
 ) -> Result<(), Memory>
+    requires typed { HasTypes conf.now (seen_form form.now) types.now }
     requires few { length layer.old.classes < 4294967295 }
     requires some { NamesSome (seen_form form.now) }
     ensures { OnOk result (layer.new ≡ with_form conf.now layer.old (seen_form form.now)) }
 {
-    let mark = mark_of(alloc, conf, form)?;
+    let mark = mark_of(alloc, conf, form, types)?;
     put_read(layer, own_id(form), mark)?;
-    let said = said_of(alloc, conf, form)?;
+    let said = said_of(alloc, conf, form, types)?;
     join_said(layer, said)
 }

@@ -13,12 +13,11 @@ ghost use Rattle.ann_reader.specs.References.{references};
 ghost use Rattle.ann_reader.specs.Forms.{form_of};
 ghost use Rattle.ann_reader.specs.LineFaults.{is_formless, is_nameless, is_twice, has_unknown_type, has_barred_type, first_absent, first_unfit, has_unknown_role, has_unknown_value, has_bad_text, one_too_many, naming_rule, value_rule, line_rule, is_bad_line, has_bad_id, line_fault};
 ghost use Rattle.ann_reader.specs.LineShows.{seen_line};
+ghost use Rattle.ann_reader.specs.LineTypes.{HasTypes};
 ghost use Rattle.ann_reader.specs.FormShows.{seen_form, seen_pair, seen_reference, seen_value};
 
 use crate::AnnWhat;
-use crate::declared_names::{
-    Value, attribute_read, event_read, relation_read, type_read, value_read,
-};
+use crate::declared_names::{LineTypes, Value, value_read};
 use crate::form::{Form, Pair};
 use crate::known_lines::KnownLines;
 use crate::line::Line;
@@ -42,16 +41,15 @@ fn is_no_name(word: &str) -> bool
 }
 
 /// Whether the type is not in the table that the line needs.
-fn has_unknown_type(alloc: Global, conf: &Conf, form: &Form) -> Result<bool, Memory>
-    ensures { IfOk result (λ unknown. unknown ≡ has_unknown_type conf.now (seen_form form.now)) }
+fn has_unknown_type(conf: &Conf, form: &Form, types: &LineTypes) -> bool
+    requires { HasTypes conf.now (seen_form form.now) types.now }
+    ensures { result ≡ has_unknown_type conf.now (seen_form form.now) }
 {
     match form {
-        Form::Bad | Form::Normal { .. } | Form::Note { .. } => Ok(false),
-        Form::Text { kind, .. } => Ok(type_read(alloc, conf, kind)?.is_none()),
-        Form::Event { kind, .. } => Ok(event_read(alloc, conf, kind)?.is_none()),
-        Form::Relation { kind, .. } => Ok(relation_read(alloc, conf, kind)?.is_none()),
-        Form::Attribute { kind, .. } => Ok(attribute_read(alloc, conf, kind)?.is_none()),
-        Form::Class { kind, .. } => Ok(relation_read(alloc, conf, kind)?.is_none()),
+        Form::Bad | Form::Normal { .. } | Form::Note { .. } => false,
+        Form::Text { .. } | Form::Event { .. } => types.marked.is_none(),
+        Form::Relation { .. } | Form::Class { .. } => types.related.is_none(),
+        Form::Attribute { .. } => types.attributed.is_none(),
     }
 }
 
@@ -70,21 +68,21 @@ fn is_barred(conf: &Conf, kind: Option<TypeId>) -> bool
 
 /// Whether the type only orders others, or is an equivalence in the place of a relation, or the other way
 /// round.
-fn has_barred_type(alloc: Global, conf: &Conf, form: &Form) -> Result<bool, Memory>
-    ensures { IfOk result (λ barred. barred ≡ has_barred_type conf.now (seen_form form.now)) }
+fn has_barred_type(conf: &Conf, form: &Form, types: &LineTypes) -> bool
+    requires { HasTypes conf.now (seen_form form.now) types.now }
+    ensures { result ≡ has_barred_type conf.now (seen_form form.now) }
 {
     match form {
-        Form::Text { kind, .. } => Ok(is_barred(conf, type_read(alloc, conf, kind)?)),
-        Form::Event { kind, .. } => Ok(is_barred(conf, event_read(alloc, conf, kind)?)),
-        Form::Relation { kind, .. } => match relation_read(alloc, conf, kind)? {
-            Some(id) => Ok(conf.is_equivalence(id)),
-            None => Ok(false),
+        Form::Text { .. } | Form::Event { .. } => is_barred(conf, types.marked),
+        Form::Relation { .. } => match types.related {
+            Some(id) => conf.is_equivalence(id),
+            None => false,
         },
-        Form::Class { kind, .. } => match relation_read(alloc, conf, kind)? {
-            Some(id) => Ok(!conf.is_equivalence(id)),
-            None => Ok(false),
+        Form::Class { .. } => match types.related {
+            Some(id) => !conf.is_equivalence(id),
+            None => false,
         },
-        _ => Ok(false),
+        _ => false,
     }
 }
 
@@ -129,19 +127,20 @@ fn some_unknown_role(conf: &Conf, kind: TypeId, pairs: &[Pair]) -> bool
 }
 
 /// Whether a role is not one that the type has, or the two of a relation are not its two.
-fn has_unknown_role(alloc: Global, conf: &Conf, form: &Form) -> Result<bool, Memory>
-    ensures { IfOk result (λ unknown. unknown ≡ has_unknown_role conf.now (seen_form form.now)) }
+fn has_unknown_role(conf: &Conf, form: &Form, types: &LineTypes) -> bool
+    requires { HasTypes conf.now (seen_form form.now) types.now }
+    ensures { result ≡ has_unknown_role conf.now (seen_form form.now) }
 {
     match form {
-        Form::Event { kind, pairs, .. } => match event_read(alloc, conf, kind)? {
-            Some(id) => Ok(some_unknown_role(conf, id, pairs)),
-            None => Ok(false),
+        Form::Event { pairs, .. } => match types.marked {
+            Some(id) => some_unknown_role(conf, id, pairs),
+            None => false,
         },
-        Form::Relation { kind, a, b, .. } => match relation_read(alloc, conf, kind)? {
-            Some(id) => Ok(ends_of(conf, id, a, b).is_none()),
-            None => Ok(false),
+        Form::Relation { a, b, .. } => match types.related {
+            Some(id) => ends_of(conf, id, a, b).is_none(),
+            None => false,
         },
-        _ => Ok(false),
+        _ => false,
     }
 }
 
@@ -158,11 +157,17 @@ fn is_refused(conf: &Conf, kind: AttrId, value: Value) -> bool
 }
 
 /// Whether the value of an attribute is not what its type wants.
-fn has_unknown_value(alloc: Global, conf: &Conf, form: &Form) -> Result<bool, Memory>
+fn has_unknown_value(
+    alloc: Global,
+    conf: &Conf,
+    form: &Form,
+    types: &LineTypes,
+) -> Result<bool, Memory>
+    requires { HasTypes conf.now (seen_form form.now) types.now }
     ensures { IfOk result (λ unknown. unknown ≡ has_unknown_value conf.now (seen_form form.now)) }
 {
     match form {
-        Form::Attribute { kind, value, .. } => match attribute_read(alloc, conf, kind)? {
+        Form::Attribute { value, .. } => match types.attributed {
             Some(id) => Ok(is_refused(conf, id, value_read(alloc, conf, id, *value)?)),
             None => Ok(false),
         },
@@ -209,25 +214,26 @@ fn one_too_many(before: u32, byte: u8) -> Option<Rule>
 
 /// The first of the rules of types and IDs that a line breaks.
 fn naming_rule(
-    alloc: Global,
     conf: &Conf,
     known: &KnownLines,
     form: &Form,
+    types: &LineTypes,
     named: &[Reference],
-) -> Result<Option<Rule>, Memory>
-    requires { map seen_reference named.now ≡ references (seen_form form.now) }
-    ensures { IfOk result (λ rule. rule ≡ naming_rule conf.now known.now (seen_form form.now)) }
+) -> Option<Rule>
+    requires typed { HasTypes conf.now (seen_form form.now) types.now }
+    requires named { map seen_reference named.now ≡ references (seen_form form.now) }
+    ensures { result ≡ naming_rule conf.now known.now (seen_form form.now) }
 {
-    if has_unknown_type(alloc, conf, form)? {
-        return Ok(Some(Rule::UnknownType));
+    if has_unknown_type(conf, form, types) {
+        return Some(Rule::UnknownType);
     }
-    if has_barred_type(alloc, conf, form)? {
-        return Ok(Some(Rule::NotForUse));
+    if has_barred_type(conf, form, types) {
+        return Some(Rule::NotForUse);
     }
     if let Some(rule) = first_absent(known, named) {
-        return Ok(Some(rule));
+        return Some(rule);
     }
-    Ok(first_unfit(named))
+    first_unfit(named)
 }
 
 /// The first of the rules of roles, values, texts and counts that a line breaks.
@@ -237,13 +243,15 @@ fn value_rule(
     before: u32,
     line: &Line,
     form: &Form,
+    types: &LineTypes,
 ) -> Result<Option<Rule>, Memory>
+    requires { HasTypes conf.now (seen_form form.now) types.now }
     ensures { IfOk result (λ rule. rule ≡ value_rule conf.now before (seen_line line.now) (seen_form form.now)) }
 {
-    if has_unknown_role(alloc, conf, form)? {
+    if has_unknown_role(conf, form, types) {
         return Ok(Some(Rule::UnknownRole));
     }
-    if has_unknown_value(alloc, conf, form)? {
+    if has_unknown_value(alloc, conf, form, types)? {
         return Ok(Some(Rule::UnknownValue));
     }
     if has_bad_text(form) {
@@ -308,14 +316,16 @@ fn line_rule(
     before: u32,
     line: &Line,
     form: &Form,
+    types: &LineTypes,
     named: &[Reference],
 ) -> Result<Option<Rule>, Memory>
-    requires { map seen_reference named.now ≡ references (seen_form form.now) }
+    requires typed { HasTypes conf.now (seen_form form.now) types.now }
+    requires named { map seen_reference named.now ≡ references (seen_form form.now) }
     ensures { IfOk result (λ rule. rule ≡ line_rule conf.now known.now before (seen_line line.now) (seen_form form.now)) }
 {
-    match naming_rule(alloc, conf, known, form, named)? {
+    match naming_rule(conf, known, form, types, named) {
         Some(rule) => Ok(Some(rule)),
-        None => value_rule(alloc, conf, before, line, form),
+        None => value_rule(alloc, conf, before, line, form, types),
     }
 }
 
@@ -328,8 +338,10 @@ pub(crate) fn line_fault(
     before: u32,
     line: &Line,
     form: &Form,
+    types: &LineTypes,
 ) -> Result<Option<AnnWhat>, Memory>
-    requires { seen_form form.now ≡ form_of line.now.text.now }
+    requires formed { seen_form form.now ≡ form_of line.now.text.now }
+    requires typed { HasTypes conf.now (seen_form form.now) types.now }
     ensures { IfOk result (λ what. what ≡ line_fault conf.now known.now before (seen_line line.now)) }
 {
     let named = references(alloc, form)?;
@@ -342,7 +354,7 @@ pub(crate) fn line_fault(
     if is_twice(known, line, form) {
         return Ok(Some(AnnWhat::IdTwice));
     }
-    match line_rule(alloc, conf, known, before, line, form, &named)? {
+    match line_rule(alloc, conf, known, before, line, form, types, &named)? {
         Some(rule) => Ok(Some(AnnWhat::Broken(rule))),
         None => Ok(None),
     }

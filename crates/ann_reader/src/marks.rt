@@ -1,14 +1,13 @@
 //! What a line says under a configuration: the annotation that it spells, or the class.
 ghost use Rattle.std.specs.Prelude.{◌≡◌, IfOk, map, option_map, option_and_then};
-ghost use Rattle.ann_reader.specs.NamesRead.{type_read, event_read, relation_read, attribute_read, value_read};
+ghost use Rattle.ann_reader.specs.LineTypes.{HasTypes};
+ghost use Rattle.ann_reader.specs.NamesRead.{value_read};
 ghost use Rattle.ann_reader.specs.Marks.{arg_of, args_of, is_role, ends_of, span_by, event_by, relation_by, attribute_by, normal_by, note_by, mark_of, said_by, said_of};
 ghost use Rattle.ann_reader.specs.FormShows.{seen_text, seen_pair, seen_form, seen_ends, seen_said, seen_value};
 ghost use Rattle.mark_base.specs.ReadIds.{id_read};
 ghost use Rattle.ann_reader.specs.Words.{all_of};
 
-use crate::declared_names::{
-    Value, attribute_read, event_read, relation_read, type_read, value_read,
-};
+use crate::declared_names::{LineTypes, Value, value_read};
 use crate::form::{Form, Pair};
 use crate::roles::role_read;
 use annotation_conf::Conf;
@@ -84,10 +83,10 @@ pub(crate) fn ends_of<'a>(conf: &Conf, kind: RelId, a: &Pair<'a>, b: &Pair<'a>) 
 }
 
 /// The span of a T line.
-fn span_of(alloc: Global, conf: &Conf, kind: &str, frags: &[Frag]) -> Result<Option<Mark>, Memory>
-    ensures { IfOk result (λ mark. mark ≡ span_by (type_read conf.now kind.now) frags.now) }
+fn span_of(alloc: Global, kind: Option<TypeId>, frags: &[Frag]) -> Result<Option<Mark>, Memory>
+    ensures { IfOk result (λ mark. mark ≡ span_by kind frags.now) }
 {
-    match type_read(alloc, conf, kind)? {
+    match kind {
         Some(kind) => {
             let frags = FragList::of(alloc, frags)?;
             Ok(Some(Mark::Span(Span { kind, frags })))
@@ -117,13 +116,13 @@ fn event_by(kind: TypeId, trigger: Option<AnnId>, args: Option<ArgList>) -> Opti
 fn event_of(
     alloc: Global,
     conf: &Conf,
-    kind: &str,
+    kind: Option<TypeId>,
     trigger: &str,
     pairs: &[Pair],
 ) -> Result<Option<Mark>, Memory>
-    ensures { IfOk result (λ mark. mark ≡ option_and_then (λ id. event_by id (id_read trigger.now) (args_of conf.now id (map seen_pair pairs.now))) (event_read conf.now kind.now)) }
+    ensures { IfOk result (λ mark. mark ≡ option_and_then (λ id. event_by id (id_read trigger.now) (args_of conf.now id (map seen_pair pairs.now))) kind) }
 {
-    match event_read(alloc, conf, kind)? {
+    match kind {
         Some(kind) => {
             let args = args_of(alloc, conf, kind, pairs)?;
             Ok(event_by(kind, AnnId::read(trigger.as_bytes()), args))
@@ -146,21 +145,15 @@ fn relation_by(kind: RelId, ends: &Ends) -> Option<Mark>
 }
 
 /// The relation of an R line.
-fn relation_of(
-    alloc: Global,
-    conf: &Conf,
-    kind: &str,
-    a: &Pair,
-    b: &Pair,
-) -> Result<Option<Mark>, Memory>
-    ensures { IfOk result (λ mark. mark ≡ option_and_then (λ id. option_and_then (λ ends. relation_by id (id_read ends.first) (id_read ends.second)) (ends_of conf.now id (seen_pair a.now) (seen_pair b.now))) (relation_read conf.now kind.now)) }
+fn relation_of(conf: &Conf, kind: Option<RelId>, a: &Pair, b: &Pair) -> Option<Mark>
+    ensures { result ≡ option_and_then (λ id. option_and_then (λ ends. relation_by id (id_read ends.first) (id_read ends.second)) (ends_of conf.now id (seen_pair a.now) (seen_pair b.now))) (option_map (λ relation. relation.n) kind) }
 {
-    let Some(kind) = relation_read(alloc, conf, kind)? else {
-        return Ok(None);
+    let Some(kind) = kind else {
+        return None;
     };
     match ends_of(conf, kind, a, b) {
-        Some(ends) => Ok(relation_by(kind, &ends)),
-        None => Ok(None),
+        Some(ends) => relation_by(kind, &ends),
+        None => None,
     }
 }
 
@@ -183,13 +176,13 @@ fn attribute_by(kind: AttrId, target: Option<AnnId>, value: Value) -> Option<Mar
 fn attribute_of(
     alloc: Global,
     conf: &Conf,
-    kind: &str,
+    kind: Option<AttrId>,
     target: &str,
     value: Option<&str>,
 ) -> Result<Option<Mark>, Memory>
-    ensures { IfOk result (λ mark. mark ≡ option_and_then (λ id. attribute_by id (id_read target.now) (value_read conf.now id (option_map seen_text value.entry))) (attribute_read conf.now kind.now)) }
+    ensures { IfOk result (λ mark. mark ≡ option_and_then (λ id. attribute_by id (id_read target.now) (value_read conf.now id (option_map seen_text value.entry))) (option_map (λ attribute. attribute.n) kind)) }
 {
-    match attribute_read(alloc, conf, kind)? {
+    match kind {
         Some(kind) => {
             let value = value_read(alloc, conf, kind, value)?;
             Ok(attribute_by(kind, AnnId::read(target.as_bytes()), value))
@@ -241,25 +234,23 @@ fn note_of(alloc: Global, kind: &str, target: &str, text: &str) -> Result<Option
 
 /// The annotation that a line spells, where each of its parts can be read. Cost: the line.
 #[tactic(auto, unfolding(crate::specs::Marks::mark_of))]
-pub(crate) fn mark_of(alloc: Global, conf: &Conf, form: &Form) -> Result<Option<Mark>, Memory>
+pub(crate) fn mark_of(
+    alloc: Global,
+    conf: &Conf,
+    form: &Form,
+    types: &LineTypes,
+) -> Result<Option<Mark>, Memory>
+    requires { HasTypes conf.now (seen_form form.now) types.now }
     ensures { IfOk result (λ mark. mark ≡ mark_of conf.now (seen_form form.now)) }
 {
     match form {
         Form::Bad | Form::Class { .. } => Ok(None),
-        Form::Text { kind, frags, .. } => span_of(alloc, conf, kind, frags),
-        Form::Event {
-            kind,
-            trigger,
-            pairs,
-            ..
-        } => event_of(alloc, conf, kind, trigger, pairs),
-        Form::Relation { kind, a, b, .. } => relation_of(alloc, conf, kind, a, b),
-        Form::Attribute {
-            kind,
-            target,
-            value,
-            ..
-        } => attribute_of(alloc, conf, kind, target, *value),
+        Form::Text { frags, .. } => span_of(alloc, types.marked, frags),
+        Form::Event { trigger, pairs, .. } => event_of(alloc, conf, types.marked, trigger, pairs),
+        Form::Relation { a, b, .. } => Ok(relation_of(conf, types.related, a, b)),
+        Form::Attribute { target, value, .. } => {
+            attribute_of(alloc, conf, types.attributed, target, *value)
+        }
         Form::Normal {
             target,
             store,
@@ -298,10 +289,10 @@ fn ids_of(alloc: Global, words: &[&str]) -> Result<Option<IdList>, Memory>
 }
 
 /// What a `*` line says.
-fn class_of(alloc: Global, conf: &Conf, kind: &str, ids: &[&str]) -> Result<Option<Said>, Memory>
-    ensures { IfOk result (λ said. option_map seen_said said ≡ said_by (relation_read conf.now kind.now) (all_of (map id_read (map seen_text ids.now)))) }
+fn class_of(alloc: Global, kind: Option<RelId>, ids: &[&str]) -> Result<Option<Said>, Memory>
+    ensures { IfOk result (λ said. option_map seen_said said ≡ said_by (option_map (λ relation. relation.n) kind) (all_of (map id_read (map seen_text ids.now)))) }
 {
-    let Some(kind) = relation_read(alloc, conf, kind)? else {
+    let Some(kind) = kind else {
         return Ok(None);
     };
     match ids_of(alloc, ids)? {
@@ -311,11 +302,17 @@ fn class_of(alloc: Global, conf: &Conf, kind: &str, ids: &[&str]) -> Result<Opti
 }
 
 /// What a line says of a class.
-pub(crate) fn said_of(alloc: Global, conf: &Conf, form: &Form) -> Result<Option<Said>, Memory>
+pub(crate) fn said_of(
+    alloc: Global,
+    conf: &Conf,
+    form: &Form,
+    types: &LineTypes,
+) -> Result<Option<Said>, Memory>
+    requires { HasTypes conf.now (seen_form form.now) types.now }
     ensures { IfOk result (λ said. option_map seen_said said ≡ said_of conf.now (seen_form form.now)) }
 {
     match form {
-        Form::Class { kind, ids } => class_of(alloc, conf, kind, ids),
+        Form::Class { ids, .. } => class_of(alloc, types.related, ids),
         _ => Ok(None),
     }
 }

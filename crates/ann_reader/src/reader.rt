@@ -1,25 +1,28 @@
 //! Reading .ann files.
-ghost use Rattle.std.specs.Prelude.{◌≡◌, ◌≤◌, ◌==◌, [], None, OnOk, length, count_by, map, option_map, IfOk, IfErr};
+ghost use Rattle.std.specs.Prelude.{◌≡◌, ◌≤◌, ◌==◌, [], None, OnOk, length, count_by, map, option_map, IfOk, IfErr, IfSome};
 ghost use Rattle.std.specs.Option.{option_map_or, option_or};
 ghost use Rattle.std.specs.List.{list_any, find};
 ghost use Rattle.layer_model.specs.Classes.{is_among};
 ghost use Rattle.ann_reader.specs.Lines.{lines_of};
 ghost use Rattle.ann_reader.specs.LineFaults.{first_line_fault};
-ghost use Rattle.ann_reader.specs.AnnFaults.{brings, brings_some, first_text_fault, layer_fault, layer_of, line_at, lines_fault};
+ghost use Rattle.ann_reader.specs.AnnFaults.{brings, brings_some, first_text_fault, layer_fault, layer_of, line_at, lines_fault, text_fault};
 ghost use Rattle.ann_reader.specs.AnnFiles.{IsAnn};
 ghost use Rattle.ann_reader.specs.LineShows.{seen_line};
-ghost use Rattle.ann_reader.specs.FormShows.{seen_said};
+ghost use Rattle.ann_reader.specs.FormShows.{seen_form, seen_said};
+ghost use Rattle.ann_reader.specs.Forms.{form_of};
 ghost use Rattle.ann_reader.specs.FaultShows.{seen_fault};
+ghost use Rattle.ann_reader.specs.PlainTexts.{IsPlain};
 ghost use Rattle.ann_reader.specs.ReadFaults.{IsFault, Tells};
 
-use crate::form::form_of;
+use crate::declared_names::line_types;
+use crate::form::{Form, form_of};
 use crate::known_lines::KnownLines;
 use crate::layer_lines::add_line;
 use crate::line::{Line, lines};
 use crate::line_counts::{LineCounts, count_line, count_of};
 use crate::line_fault::line_fault;
 use crate::marks::{Said, said_of};
-use crate::texts::text_differs;
+use crate::texts::{plain_text, text_differs};
 use crate::word::first_byte;
 use crate::{AnnFault, AnnWhat};
 use annotation_conf::Conf;
@@ -44,40 +47,6 @@ fn line_ends(bytes: &[u8]) -> usize
     ensures bound { result ≤ length bytes.now }
 {
     bytes.iter().filter(|byte| **byte == b'\n').count()
-}
-
-/// The fault of the first line that has one.
-fn first_line_fault(alloc: Global, conf: &Conf, known: &KnownLines) -> Result<Option<Fault>, Memory>
-    requires { length known.now ≤ 16777217 }
-    ensures { IfOk result (λ fault. option_map seen_fault fault ≡ first_line_fault conf.now known.now [] known.now) }
-{
-    let mut counts: LineCounts = BTreeMap::new(alloc);
-    for line in known.lines() {
-        let byte = first_byte(line.text.as_bytes());
-        let form = form_of(alloc, line.text)?;
-        let before = count_of(&counts, byte);
-        if let Some(what) = line_fault(alloc, conf, known, before, line, &form)? {
-            return Ok(Some(Fault {
-                line: line.number,
-                what,
-            }));
-        }
-        count_line(&mut counts, byte)?;
-    }
-    Ok(None)
-}
-
-/// The layer that lines say.
-fn layer_of(alloc: Global, conf: &Conf, lines: &[Line]) -> Result<Layer, Memory>
-    requires { length lines.now ≤ 16777217 }
-    ensures { IfOk result (λ layer. layer ≡ layer_of conf.now (map seen_line lines.now)) }
-{
-    let mut layer = Layer::new(alloc);
-    for line in lines {
-        let form = form_of(alloc, line.text)?;
-        add_line(alloc, conf, &mut layer, &form)?;
-    }
-    Ok(layer)
 }
 
 /// Whether an ID is one of these.
@@ -107,7 +76,8 @@ fn brings(alloc: Global, conf: &Conf, class: &Class, line: &Line) -> Result<bool
     ensures { IfOk result (λ found. found ≡ brings conf.now class.now (seen_line line.now)) }
 {
     let form = form_of(alloc, line.text)?;
-    match said_of(alloc, conf, &form)? {
+    let types = line_types(alloc, conf, &form)?;
+    match said_of(alloc, conf, &form, &types)? {
         Some(said) => Ok(brings_some(class, &said)),
         None => Ok(false),
     }
@@ -178,20 +148,44 @@ fn layer_fault(
     }
 }
 
-/// The fault of the first line whose text is not the reference text.
-fn first_text_fault(alloc: Global, doc: &Doc, lines: &[Line]) -> Result<Option<Fault>, Memory>
-    ensures { IfOk result (λ fault. option_map seen_fault fault ≡ first_text_fault doc.now (map seen_line lines.now)) }
+/// The fault of the text of a line.
+fn text_fault(
+    alloc: Global,
+    doc: &Doc,
+    plain: Option<&[u8]>,
+    line: &Line,
+    form: &Form,
+) -> Result<Option<Fault>, Memory>
+    requires plain { IfSome plain (λ bytes. IsPlain doc.now bytes.now) }
+    requires formed { seen_form form.now ≡ form_of line.now.text.now }
+    ensures { IfOk result (λ fault. option_map seen_fault fault ≡ text_fault doc.now (seen_line line.now)) }
 {
-    for line in lines {
-        let form = form_of(alloc, line.text)?;
-        if let Some(place) = text_differs(alloc, doc, &form)? {
-            return Ok(Some(Fault {
-                line: line.number,
-                what: AnnWhat::WrongText(place),
-            }));
-        }
+    match text_differs(alloc, doc, plain, form)? {
+        Some(place) => Ok(Some(Fault {
+            line: line.number,
+            what: AnnWhat::WrongText(place),
+        })),
+        None => Ok(None),
     }
-    Ok(None)
+}
+
+/// The first fault of texts, where this is that of the lines before.
+fn text_fault_or(
+    alloc: Global,
+    doc: &Doc,
+    plain: Option<&[u8]>,
+    before: Option<Fault>,
+    line: &Line,
+    form: &Form,
+) -> Result<Option<Fault>, Memory>
+    requires plain { IfSome plain (λ bytes. IsPlain doc.now bytes.now) }
+    requires formed { seen_form form.now ≡ form_of line.now.text.now }
+    ensures { IfOk result (λ fault. option_map seen_fault fault ≡ option_or (option_map seen_fault before) (text_fault doc.now (seen_line line.now))) }
+{
+    match before {
+        Some(fault) => Ok(Some(fault)),
+        None => text_fault(alloc, doc, plain, line, form),
+    }
 }
 
 /// A fault as the reader tells it.
@@ -204,20 +198,65 @@ fn told(fault: Fault) -> AnnFault
     }
 }
 
-/// The layer that lines without a fault say, or the fault of the layer or of a text.
-fn read_layer(alloc: Global, doc: &Doc, conf: &Conf, known: &KnownLines) -> Result<Layer, AnnFault>
+/// What the lines of a file say, where none of them is at fault by itself.
+#[derive(Drop)]
+struct Spelt {
+    layer: Layer,
+    /// The fault of the first line whose text is not the reference text.
+    text_fault: Option<Fault>,
+}
+
+/// Passes over the lines once: each is read into its form and its type is looked up; where it is not at fault by
+/// itself, what it says is added to the layer, and its text is compared.
+fn spelt_by(alloc: Global, doc: &Doc, conf: &Conf, known: &KnownLines) -> Result<Spelt, AnnFault>
     requires { length known.now ≤ 16777217 }
+    ensures layer { IfOk result (λ spelt. spelt.layer ≡ layer_of conf.now known.now) }
+    ensures texts { IfOk result (λ spelt. option_map seen_fault spelt.text_fault ≡ first_text_fault doc.now known.now) }
+    ensures clean { OnOk result (first_line_fault conf.now known.now [] known.now ≡ None) }
+    ensures fault { IfErr result (Tells (first_line_fault conf.now known.now [] known.now)) }
+{
+    let plain = plain_text(doc);
+    let mut counts: LineCounts = BTreeMap::new(alloc);
+    let mut layer = Layer::new(alloc);
+    let mut text_fault: Option<Fault> = None;
+    for line in known.lines() {
+        let byte = first_byte(line.text.as_bytes());
+        let form = form_of(alloc, line.text)?;
+        let types = line_types(alloc, conf, &form)?;
+        let before = count_of(&counts, byte);
+        if let Some(what) = line_fault(alloc, conf, known, before, line, &form, &types)? {
+            return Err(AnnFault::At {
+                line: line.number,
+                what,
+            });
+        }
+        count_line(&mut counts, byte)?;
+        add_line(alloc, conf, &mut layer, &form, &types)?;
+        text_fault = text_fault_or(alloc, doc, plain, text_fault, line, &form)?;
+    }
+    Ok(Spelt { layer, text_fault })
+}
+
+/// The layer that lines say, where neither it nor a text is at fault.
+fn layer_read(
+    alloc: Global,
+    doc: &Doc,
+    conf: &Conf,
+    known: &KnownLines,
+    spelt: Spelt,
+) -> Result<Layer, AnnFault>
+    requires layer { spelt.layer ≡ layer_of conf.now known.now }
+    requires texts { option_map seen_fault spelt.text_fault ≡ first_text_fault doc.now known.now }
     ensures read { IfOk result (λ layer. layer ≡ layer_of conf.now known.now) }
     ensures clean { OnOk result (option_or (layer_fault conf.now (length doc.now) known.now) (first_text_fault doc.now known.now) ≡ None) }
     ensures fault { IfErr result (Tells (option_or (layer_fault conf.now (length doc.now) known.now) (first_text_fault doc.now known.now))) }
 {
-    let layer = layer_of(alloc, conf, known.lines())?;
-    if let Some(fault) = layer_fault(alloc, doc, conf, known, &layer)? {
+    if let Some(fault) = layer_fault(alloc, doc, conf, known, &spelt.layer)? {
         return Err(told(fault));
     }
-    match first_text_fault(alloc, doc, known.lines())? {
+    match spelt.text_fault {
         Some(fault) => Err(told(fault)),
-        None => Ok(layer),
+        None => Ok(spelt.layer),
     }
 }
 
@@ -229,17 +268,17 @@ fn read_text(alloc: Global, text: &str, doc: &Doc, conf: &Conf) -> Result<Layer,
     ensures fault { IfErr result (Tells (lines_fault conf.now doc.now (lines_of text.now))) }
 {
     let known = KnownLines::of(alloc, lines(alloc, text)?)?;
-    match first_line_fault(alloc, conf, &known)? {
-        Some(fault) => Err(told(fault)),
-        None => read_layer(alloc, doc, conf, &known),
-    }
+    let spelt = spelt_by(alloc, doc, conf, &known)?;
+    layer_read(alloc, doc, conf, &known, spelt)
 }
 
 /// Reads an .ann file, of at most 16,777,216 bytes (brat standoff manual). The fault is found in phases: bytes
 /// that are not UTF-8; the first line whose form, IDs or single rules are at fault; the least flaw of the layer
 /// that the lines say, at the line of its place; the first T line whose text is not that of its fragments.
-/// Memory may run out at any time. Cost: the bytes times the logarithm of the number of annotations, and for each
-/// line of a class the members of all classes before it; the text of the document is not passed over for each line.
+/// Memory may run out at any time. Each line is read into its form once, and its type is looked up once. Cost: the
+/// bytes times the logarithm of the number of annotations, and for each line of a class the members of all classes
+/// before it. The text of the document is passed over once; for each fragment only what it covers, and in a text that
+/// is not of ASCII alone some 255 characters before each end.
 pub fn read_ann(alloc: Global, bytes: &[u8], doc: &Doc, conf: &Conf) -> Result<Layer, AnnFault>
     requires { length bytes.now ≤ 16777216 }
     ensures read { IfOk result (IsAnn conf.now doc.now bytes.now) }

@@ -1,11 +1,13 @@
 //! The texts of T lines against the reference texts.
-ghost use Rattle.std.specs.Prelude.{◌≡◌, ◌==◌, None, bytes_eq, chars, map, is_some, IfOk, IfSome, if◌then◌else◌};
-ghost use Rattle.std.specs.List.{common_prefix_len};
-ghost use Rattle.char_documents.specs.Texts.{all_lie_in, reference_text};
+ghost use Rattle.std.specs.Prelude.{◌≡◌, ◌==◌, true, false, None, bytes_eq, chars, map, is_some, IfOk, IfSome, if◌then◌else◌};
+ghost use Rattle.std.specs.List.{common_prefix_len, list_any};
+ghost use Rattle.char_documents.specs.Texts.{all_lie_in, covered, reference_text};
 ghost use Rattle.ann_reader.specs.AnnFaults.{as_space, differing, text_differs};
 ghost use Rattle.ann_reader.specs.FormShows.{seen_form};
+ghost use Rattle.ann_reader.specs.PlainTexts.{IsPlain};
 
 use crate::form::Form;
+use crate::line::has_byte;
 use char_documents::{Doc, RefFault};
 use mark_base::{Frag, Memory};
 use std::alloc::{AllocError, Global};
@@ -78,10 +80,61 @@ fn reference_characters(
     }
 }
 
+/// The bytes of a document of ASCII, which are its characters.
+pub(crate) fn plain_text(doc: &Doc) -> Option<&[u8]>
+    ensures { IfSome result (λ bytes. IsPlain doc.now bytes.now) }
+{
+    let text = doc.text();
+    if text.is_ascii() {
+        Some(text.as_bytes())
+    } else {
+        None
+    }
+}
+
+/// Whether a text is what a fragment covers of some bytes, and no line feed stands in it.
+fn is_covered(plain: &[u8], frag: Frag, text: &[u8]) -> bool
+    ensures same { result ≡ true → text.now ≡ covered plain.now frag }
+    ensures no_line_feed { result ≡ true → list_any (λ b. b == 10) text.now ≡ false }
+{
+    let start = frag.start as usize;
+    let end = frag.end as usize;
+    if start > end || end > plain.len() {
+        return false;
+    }
+    &plain[start..end] == text && !has_byte(text, b'\n')
+}
+
+/// Whether a text is what its one fragment covers of a document of ASCII. Where it is, it is the reference text, which
+/// need not be made.
+fn is_plainly_shown(doc: &Doc, plain: Option<&[u8]>, frags: &[Frag], text: &str) -> bool
+    requires { IfSome plain (λ bytes. IsPlain doc.now bytes.now) }
+    ensures { result ≡ true → differing (map as_space (chars text.now)) (reference_text doc.now frags.now) ≡ None }
+{
+    let _ = doc;
+    match plain {
+        Some(bytes) => match frags {
+            [frag] => is_covered(bytes, *frag, text.as_bytes()),
+            _ => false,
+        },
+        None => false,
+    }
+}
+
 /// The first place, in characters, at which a text is not the reference text of fragments.
-fn differs(alloc: Global, doc: &Doc, frags: &[Frag], text: &str) -> Result<Option<u32>, Memory>
+fn differs(
+    alloc: Global,
+    doc: &Doc,
+    plain: Option<&[u8]>,
+    frags: &[Frag],
+    text: &str,
+) -> Result<Option<u32>, Memory>
+    requires { IfSome plain (λ bytes. IsPlain doc.now bytes.now) }
     ensures { IfOk result (λ place. place ≡ (if all_lie_in doc.now frags.now then differing (map as_space (chars text.now)) (reference_text doc.now frags.now) else None)) }
 {
+    if is_plainly_shown(doc, plain, frags, text) {
+        return Ok(None);
+    }
     match reference_characters(alloc, doc, frags)? {
         Some(wanted) => {
             let shown = spaced(alloc, text)?;
@@ -92,11 +145,17 @@ fn differs(alloc: Global, doc: &Doc, frags: &[Frag], text: &str) -> Result<Optio
 }
 
 /// The first place at which the text of a T line is not the reference text of its fragments. Cost: the line.
-pub(crate) fn text_differs(alloc: Global, doc: &Doc, form: &Form) -> Result<Option<u32>, Memory>
+pub(crate) fn text_differs(
+    alloc: Global,
+    doc: &Doc,
+    plain: Option<&[u8]>,
+    form: &Form,
+) -> Result<Option<u32>, Memory>
+    requires { IfSome plain (λ bytes. IsPlain doc.now bytes.now) }
     ensures { IfOk result (λ place. place ≡ text_differs doc.now (seen_form form.now)) }
 {
     match form {
-        Form::Text { frags, text, .. } => differs(alloc, doc, frags, text),
+        Form::Text { frags, text, .. } => differs(alloc, doc, plain, frags, text),
         _ => Ok(None),
     }
 }
