@@ -1,7 +1,7 @@
 //! Laying out the file of a new journal.
 ghost use Rattle.std.specs.Prelude.{◌≡◌, ℕ, ◌+◌, ◌<◌, ◌≤◌, ◌^◌, ◌++◌, [], ◌∷◌, List, Some, length, drop, is_ok, is_some, OnOk, IfOk, IfErr, IsErrOf};
 ghost use Rattle.std.specs.List.{All};
-ghost use Rattle.mark_base.specs.Streams.{Rose};
+ghost use Rattle.mark_base.specs.Streams.{TellsFault};
 ghost use Rattle.project_journal.specs.declared.journal_fault.JournalFault.TheVariants;
 ghost use Rattle.project_journal.specs.Creation.{IsNoneOrWhole};
 ghost use Rattle.project_journal.specs.Disk.{Torn, Reaches, NoMore, Durable, OnlyEmpty, Counts, SpendsUpTo};
@@ -29,8 +29,7 @@ fn claim<D: Disk>(disk: &mut D, calls: u32, end: u64) -> Result<(), JournalFault
     ensures images { NoMore (D.images disk.old) (D.images disk.new) }
     ensures any_moment { LeavesOnly D.moment D.left_since disk.old disk.new (D.images disk.old) }
     ensures later { D.faults disk.old ≤ D.faults disk.new }
-    ensures cause { IsErrOf result TheVariants.Disk → Rose (D.faults disk.old) (D.faults disk.new) }
-    ensures still { OnOk result (D.faults disk.new ≡ D.faults disk.old) }
+    ensures cause { TellsFault (IsErrOf result TheVariants.Disk) (D.faults disk.old) (D.faults disk.new) }
     ensures faultless { D.faultless disk.old → D.faultless disk.new × (D.faults disk.new ≡ D.faults disk.old) × (IsErrOf result TheVariants.Disk → ⊥) }
 {
     disk.reserve(calls, end)?;
@@ -84,8 +83,7 @@ pub fn lay_out_empty<D: Disk>(disk: &mut D) -> Result<(), JournalFault>
     ensures already { IfErr result (λ e. (n : ℕ) → e ≡ TheVariants.AlreadyThere n → (D.holds disk.new ≡ D.holds disk.old) × NoMore (D.images disk.old) (D.images disk.new)) }
     ensures memory { IsErrOf result TheVariants.Memory → (D.holds disk.new ≡ D.holds disk.old) × NoMore (D.images disk.old) (D.images disk.new) }
     ensures later { D.faults disk.old ≤ D.faults disk.new }
-    ensures cause { IsErrOf result TheVariants.Disk → Rose (D.faults disk.old) (D.faults disk.new) }
-    ensures still { OnOk result (D.faults disk.new ≡ D.faults disk.old) }
+    ensures cause { TellsFault (IsErrOf result TheVariants.Disk) (D.faults disk.old) (D.faults disk.new) }
     ensures faultless { D.faultless disk.old → D.faultless disk.new × (D.faults disk.new ≡ D.faults disk.old) × (IsErrOf result TheVariants.Disk → ⊥) }
 {
     claim(disk, 6, 17)?;
@@ -140,8 +138,7 @@ pub fn lay_out_entries<D: Disk>(
     ensures memory { IsErrOf result TheVariants.Memory → (D.holds disk.new ≡ D.holds disk.old) × NoMore (D.images disk.old) (D.images disk.new) }
     ensures any_moment { OnlyEmpty (D.images disk.old) → LeavesOnly D.moment D.left_since disk.old disk.new (IsNoneOrWhole entries.now) }
     ensures later { D.faults disk.old ≤ D.faults disk.new }
-    ensures cause { IsErrOf result TheVariants.Disk → Rose (D.faults disk.old) (D.faults disk.new) }
-    ensures still { OnOk result (D.faults disk.new ≡ D.faults disk.old) }
+    ensures cause { TellsFault (IsErrOf result TheVariants.Disk) (D.faults disk.old) (D.faults disk.new) }
     ensures faultless { D.faultless disk.old → D.faultless disk.new × (D.faults disk.new ≡ D.faults disk.old) × (IsErrOf result TheVariants.Disk → ⊥) }
 {
     let body = body_of(alloc, entries)?;

@@ -1,7 +1,7 @@
 //! A journal: entries in a file, each whole or not at all after a stop at any moment.
 ghost use Rattle.std.specs.Prelude.{◌≡◌, ◌⊎◌, ℕ, ◌+◌, ◌<◌, ◌≤◌, ◌^◌, ◌++◌, [], ◌∷◌, true, false, List, Option, Some, None, length, is_ok, is_some, MatchResult, IfOk, IfErr, OnOk, OnErr, option_map};
 ghost use Rattle.std.specs.List.{All};
-ghost use Rattle.mark_base.specs.Streams.{Rose};
+ghost use Rattle.mark_base.specs.Streams.{TellsFault};
 ghost use Rattle.project_journal.specs.declared.journal_fault.JournalFault.TheVariants;
 ghost use Rattle.project_journal.specs.Creation.{IsNoneOrWhole};
 ghost use Rattle.project_journal.specs.Disk.{Counts, NoMore, OnlyEmpty, SpendsUpTo};
@@ -54,7 +54,7 @@ impl<D: Disk + Drop> Journal<D> {
         ensures memory { IfErr result (λ e. e.1 ≡ TheVariants.Memory → (D.holds e.0 ≡ D.holds disk) × NoMore (D.images disk) (D.images e.0)) }
         ensures later { MatchResult result (λ j. D.faults disk ≤ D.faults (disk_of j)) (λ e. D.faults disk ≤ D.faults e.0) }
         ensures still { IfOk result (λ j. D.faults (disk_of j) ≡ D.faults disk) }
-        ensures cause { IfErr result (λ e. e.1 ≡ TheVariants.Disk → Rose (D.faults disk) (D.faults e.0)) }
+        ensures cause { IfErr result (λ e. TellsFault (e.1 ≡ TheVariants.Disk) (D.faults disk) (D.faults e.0)) }
         ensures faultless { D.faultless disk → MatchResult result (λ j. ⟦<Journal<D> as Keeper>⟧.faultless j × (D.faults (disk_of j) ≡ D.faults disk)) (λ e. D.faultless e.0 × (D.faults e.0 ≡ D.faults disk) × (e.1 ≡ TheVariants.Disk → ⊥)) }
     {
         let mut disk = disk;
@@ -91,7 +91,7 @@ impl<D: Disk + Drop> Journal<D> {
         ensures any_moment { OnlyEmpty (D.images disk) → MatchResult result (λ j. LeavesOnly D.moment D.left_since disk (disk_of j) (IsNoneOrWhole entries.now)) (λ e. LeavesOnly D.moment D.left_since disk e.0 (IsNoneOrWhole entries.now)) }
         ensures later { MatchResult result (λ j. D.faults disk ≤ D.faults (disk_of j)) (λ e. D.faults disk ≤ D.faults e.0) }
         ensures still { IfOk result (λ j. D.faults (disk_of j) ≡ D.faults disk) }
-        ensures cause { IfErr result (λ e. e.1 ≡ TheVariants.Disk → Rose (D.faults disk) (D.faults e.0)) }
+        ensures cause { IfErr result (λ e. TellsFault (e.1 ≡ TheVariants.Disk) (D.faults disk) (D.faults e.0)) }
         ensures faultless { D.faultless disk → MatchResult result (λ j. ⟦<Journal<D> as Keeper>⟧.faultless j × (D.faults (disk_of j) ≡ D.faults disk)) (λ e. D.faultless e.0 × (D.faults e.0 ≡ D.faults disk) × (e.1 ≡ TheVariants.Disk → ⊥)) }
     {
         let mut disk = disk;
@@ -130,7 +130,7 @@ impl<D: Disk + Drop> Journal<D> {
 
         // No call of the disk failed: a file whose sync failed is not opened.
         ensures still { IfOk result (λ r. D.faults (disk_of r.0) ≡ D.faults disk) }
-        ensures cause { IfErr result (λ e. e.1 ≡ TheVariants.Disk → Rose (D.faults disk) (D.faults e.0)) }
+        ensures cause { IfErr result (λ e. TellsFault (e.1 ≡ TheVariants.Disk) (D.faults disk) (D.faults e.0)) }
         ensures faultless { D.faultless disk → MatchResult result (λ r. ⟦<Journal<D> as Keeper>⟧.faultless r.0 × (D.faults (disk_of r.0) ≡ D.faults disk)) (λ e. D.faultless e.0 × (D.faults e.0 ≡ D.faults disk) × (e.1 ≡ TheVariants.Disk → ⊥)) }
     {
         let mut disk = disk;

@@ -1,6 +1,6 @@
 //! What keeps a growing list of entries.
 ghost use Rattle.std.specs.Prelude.{◌≡◌, ◌⊎◌, ℕ, ◌≤◌, [], ◌++◌, ◌∷◌, List, Option, Some, None, OnOk, OnErr, IsErrOf, option_map};
-ghost use Rattle.mark_base.specs.Streams.{Rose};
+ghost use Rattle.mark_base.specs.Streams.{TellsFault};
 ghost use Rattle.project_journal.specs.declared.keeper.KeeperFault.TheVariants;
 ghost use Rattle.project_journal.specs.Keeper.{IsEntry, IsKeptOrOneMore, IsKeptOrDoubt};
 ghost use Rattle.project_journal.specs.Stops.{LeavesOnly};
@@ -72,8 +72,7 @@ pub trait Keeper: Drop {
             → LeavesOnly moment left_since self.old self.new (IsKeptOrOneMore entries (doubt self.old) entry.now) }
 
         ensures later { faults self.old ≤ faults self.new }
-        ensures failed { IsErrOf result KeeperFault.Failed → Rose (faults self.old) (faults self.new) }
-        ensures still { OnOk result (faults self.new ≡ faults self.old) }
+        ensures cause { TellsFault (IsErrOf result KeeperFault.Failed) (faults self.old) (faults self.new) }
         ensures faultless_stays { faultless self.old → faultless self.new × (faults self.new ≡ faults self.old) }
         ensures faultless_not_failed { faultless self.old → IsErrOf result KeeperFault.Failed → ⊥ };
 

@@ -1,6 +1,6 @@
 //! Reading the file of a journal.
 ghost use Rattle.std.specs.Prelude.{◌≡◌, ◌⊎◌, ℕ, ◌+◌, ◌<◌, ◌≤◌, ◌^◌, true, false, List, Some, None, length, take, vec_len, OnOk, IfOk, IfErr, IsErrOf, IfSome, IfNone, is_some};
-ghost use Rattle.mark_base.specs.Streams.{Rose};
+ghost use Rattle.mark_base.specs.Streams.{TellsFault};
 ghost use Rattle.project_journal.specs.declared.journal_fault.JournalFault.TheVariants;
 ghost use Rattle.project_journal.specs.Disk.{Durable, NoMore};
 ghost use Rattle.project_journal.specs.JournalFile.{is_journal, is_known, version, damage, bytes_of, whole_record};
@@ -33,8 +33,8 @@ fn read_more<D: Disk>(
     ensures images { NoMore (D.images disk.old) (D.images disk.new) }
     ensures any_moment { LeavesOnly D.moment D.left_since disk.old disk.new (D.images disk.old) }
     ensures later { D.faults disk.old ≤ D.faults disk.new }
-    ensures cause { IfErr result (λ e. (e ≡ TheVariants.Disk → Rose (D.faults disk.old) (D.faults disk.new)) × ((e ≡ TheVariants.Disk) ⊎ (e ≡ TheVariants.Memory))) }
-    ensures still { OnOk result (D.faults disk.new ≡ D.faults disk.old) }
+    ensures which { IfErr result (λ e. (e ≡ TheVariants.Disk) ⊎ (e ≡ TheVariants.Memory)) }
+    ensures cause { TellsFault (IsErrOf result TheVariants.Disk) (D.faults disk.old) (D.faults disk.new) }
     ensures faultless { D.faultless disk.old → D.faultless disk.new × (D.faults disk.new ≡ D.faults disk.old) × (IsErrOf result TheVariants.Disk → ⊥) }
 {
     disk.reserve(1, 0)?;
@@ -50,8 +50,8 @@ fn read_all<D: Disk>(alloc: Global, disk: &mut D) -> Result<Vec<u8>, JournalFaul
     ensures images { NoMore (D.images disk.old) (D.images disk.new) }
     ensures any_moment { LeavesOnly D.moment D.left_since disk.old disk.new (D.images disk.old) }
     ensures later { D.faults disk.old ≤ D.faults disk.new }
-    ensures cause { IfErr result (λ e. (e ≡ TheVariants.Disk → Rose (D.faults disk.old) (D.faults disk.new)) × ((e ≡ TheVariants.Disk) ⊎ (e ≡ TheVariants.Memory))) }
-    ensures still { OnOk result (D.faults disk.new ≡ D.faults disk.old) }
+    ensures which { IfErr result (λ e. (e ≡ TheVariants.Disk) ⊎ (e ≡ TheVariants.Memory)) }
+    ensures cause { TellsFault (IsErrOf result TheVariants.Disk) (D.faults disk.old) (D.faults disk.new) }
     ensures faultless { D.faultless disk.old → D.faultless disk.new × (D.faults disk.new ≡ D.faults disk.old) × (IsErrOf result TheVariants.Disk → ⊥) }
 {
     let mut bytes = Vec::new(alloc);
@@ -152,8 +152,7 @@ pub fn load<D: Disk>(alloc: Global, disk: &mut D) -> Result<Contents, JournalFau
     ensures images { NoMore (D.images disk.old) (D.images disk.new) }
     ensures any_moment { LeavesOnly D.moment D.left_since disk.old disk.new (D.images disk.old) }
     ensures later { D.faults disk.old ≤ D.faults disk.new }
-    ensures cause { IsErrOf result TheVariants.Disk → Rose (D.faults disk.old) (D.faults disk.new) }
-    ensures still { OnOk result (D.faults disk.new ≡ D.faults disk.old) }
+    ensures cause { TellsFault (IsErrOf result TheVariants.Disk) (D.faults disk.old) (D.faults disk.new) }
     ensures faultless { D.faultless disk.old → D.faultless disk.new × (D.faults disk.new ≡ D.faults disk.old) × (IsErrOf result TheVariants.Disk → ⊥) }
 {
     disk.reserve(1, 0)?;
