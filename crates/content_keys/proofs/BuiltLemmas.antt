@@ -76,7 +76,7 @@ module _ (l : Annotations) (whole : IsCoherent l) where
   abbrev at : Kind → (n : ℕ) → n ≤ 999999999 → AnnId
   at kind n w = record { kind = kind; number = n; within = w }
 
-  span_built : (f n : ℕ) (w : n ≤ 999999999) → finite.contains_key l.spans n ≡ true → IsBuilt node (suc f) (at letter.Text n w)
+  pub span_built : (f n : ℕ) (w : n ≤ 999999999) → finite.contains_key l.spans n ≡ true → IsBuilt node (suc f) (at letter.Text n w)
   span_built f n w h =
       let s = stands (finite.get l.spans n) h in
       built_from node f (at letter.Text n w) (span_node s.0) (ap (λ o. option_and_then node_of_mark (option_map marked.Span o)) s.1) (λ y m. elim m [ inl a ↦ absurd a | inr b ↦ absurd b.1 ])

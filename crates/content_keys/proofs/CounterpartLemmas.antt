@@ -1,5 +1,7 @@
 -- Moves between the tables of two layers find counterparts.
-use Rattle.std.proofs.Common.{◌≡◌, ◌≢◌, ℕ, suc, ◌<◌, eqb, inl, inr, true, false, cond, List, [], ◌∷◌, map, length, refl, sym, ap, ◌∙◌, arith, Option, Some, None, All, option_and_then}
+use Rattle.std.proofs.Common.{◌≡◌, ◌≢◌, ℕ, zero, suc, ◌+◌, ◌<◌, take, is_some, subst, eqb, inl, inr, true, false, cond, List, [], ◌∷◌, ◌++◌, map, length, get_or, set, get_or-set_same, get_or-set_other, refl, sym, ap, ◌∙◌, arith, Option, Some, None, All, option_and_then}
+use Rattle.std.specs.Option.{option_or}
+use Rattle.std.proofs.lemmas.List.{take_more}
 use Rattle.std.proofs.lemmas.Bool.Decides.{eqb_tells}
 use Rattle.mark_base.specs.declared.ann_id.AnnId.{AnnId}
 use Rattle.layer_model.specs.Classes.{rank}
@@ -77,3 +79,77 @@ module _ (A B : List (Node ℕ)) (b : IsTable B) (ms : List (Option ℕ)) (long 
   found_all (p ∷ ps) all =
       let here : p.place < length A = all 0 p (omega arith) in
       λ i. (p.id, found_one p here i) ∷ found_all ps (λ k d l. all (suc k) d (omega arith)) i
+
+-- ---- the first annotation at each place, as a list
+
+first_push : (ps : List Placed) (p : Placed) (place : ℕ) → first_at (ps ++ p ∷ []) place ≡ option_or (first_at ps place) (cond (eqb p.place place) (Some p.id) None)
+first_push [] p place = refl
+first_push (q ∷ qs) p place =
+    elim (eqb q.place place) as (λ b. cond b (Some q.id) (first_at (qs ++ p ∷ []) place) ≡ option_or (cond b (Some q.id) (first_at qs place)) (cond (eqb p.place place) (Some p.id) None)) [
+      | true ↦ refl
+      | false ↦ first_push qs p place
+    ]
+
+or_none : {X : Type 0} (o : Option X) → option_or o None ≡ o
+or_none None = refl
+or_none (Some x) = refl
+
+module _ (ps : List Placed) (p : Placed) (firsts : List (Option AnnId)) (so_far : (q : ℕ) → get_or firsts q None ≡ first_at ps q) where
+  other : (q : ℕ) → (p.place ≡ q → ⊥) → get_or firsts q None ≡ first_at (ps ++ p ∷ []) q
+  other q n = elim (eqb_tells p.place q) [
+    | inl e ↦ absurd (n e.1)
+    | inr e ↦ so_far q ∙ sym (first_push ps p q ∙ ap (λ b. option_or (first_at ps q) (cond b (Some p.id) None)) e.0 ∙ or_none (first_at ps q))
+  ]
+
+  -- a place that had none has this one
+  pub first_put : p.place < length firsts → get_or firsts p.place None ≡ None → (q : ℕ) → get_or (set firsts p.place (Some p.id)) q None ≡ first_at (ps ++ p ∷ []) q
+  first_put h none q =
+      elim (eqb_tells p.place q) [
+        | inl e ↦
+            let free : first_at ps q ≡ None = ap (first_at ps) (sym e.1) ∙ sym (so_far p.place) ∙ none in
+            ap (λ k. get_or (set firsts p.place (Some p.id)) k None) (sym e.1) ∙ get_or-set_same firsts p.place (Some p.id) None h
+            ∙ sym (first_push ps p q ∙ (λ i. option_or (free i) (cond (e.0 i) (Some p.id) None)))
+        | inr e ↦ get_or-set_other firsts p.place q (Some p.id) None (λ s. e.1 (sym s)) ∙ other q e.1
+      ]
+
+  -- a place that had one keeps it
+  pub first_kept : (x : AnnId) → get_or firsts p.place None ≡ Some x → (q : ℕ) → get_or firsts q None ≡ first_at (ps ++ p ∷ []) q
+  first_kept x some q =
+      elim (eqb_tells p.place q) [
+        | inl e ↦
+            let here : first_at ps q ≡ Some x = ap (first_at ps) (sym e.1) ∙ sym (so_far p.place) ∙ some in
+            so_far q ∙ here ∙ sym (first_push ps p q ∙ ap (λ o. option_or o (cond (eqb p.place q) (Some p.id) None)) here)
+        | inr e ↦ other q e.1
+      ]
+
+any_default : {X : Type 0} (xs : List X) (i : ℕ) (d e : X) → i < length xs → get_or xs i d ≡ get_or xs i e
+any_default [] i d e h = absurd (omega arith)
+any_default (x ∷ xs) zero d e h = refl
+any_default (x ∷ xs) (suc i) d e h = any_default xs i d e (omega arith)
+
+is_free : {X : Type 0} (o : Option X) → is_some o ≡ false → o ≡ None
+is_free None e = refl
+is_free (Some x) e = cc
+
+is_taken : {X : Type 0} (o : Option X) → is_some o ≡ true → (x : X) × (o ≡ Some x)
+is_taken None e = cc
+is_taken (Some x) e = (x, refl)
+
+-- one annotation more
+module _ (placed : List Placed) (i : ℕ) (p : Placed) (h : i < length placed) (at : p ≡ get_or placed i p) (count : ℕ) (within : All (λ q. q.place < count) placed)
+    (firsts : List (Option AnnId)) (long : length firsts ≡ count) (so_far : (q : ℕ) → get_or firsts q None ≡ first_at (take i placed) q) (here : Option AnnId) (is : here ≡ get_or firsts p.place here) where
+  more : take i placed ++ p ∷ [] ≡ take (i + 1) placed
+  more = sym (take_more placed i p h ∙ ap (λ q. take i placed ++ q ∷ []) (sym at))
+
+  small : p.place < length firsts
+  small = let l : p.place < count = subst (λ q. q.place < count) (sym at) (within i p h) in omega arith
+
+  pub first_more : is_some here ≡ false → (q : ℕ) → get_or (set firsts p.place (Some p.id)) q None ≡ first_at (take (i + 1) placed) q
+  first_more e q =
+      let none : get_or firsts p.place None ≡ None = any_default firsts p.place None here small ∙ sym is ∙ is_free here e in
+      first_put (take i placed) p firsts so_far small none q ∙ ap (λ ps. first_at ps q) more
+
+  pub first_same : is_some here ≡ true → (q : ℕ) → get_or firsts q None ≡ first_at (take (i + 1) placed) q
+  first_same e q =
+      let some : (x : AnnId) × (here ≡ Some x) = is_taken here e in
+      first_kept (take i placed) p firsts so_far some.0 (any_default firsts p.place None here small ∙ sym is ∙ some.1) q ∙ ap (λ ps. first_at ps q) more

@@ -16,12 +16,11 @@ use Rattle.mark_base.specs.declared.ann_id.Kind.TheVariants as letter
 use Rattle.mark_base.specs.ReadIds.{id_at}
 use Rattle.layer_model.specs.Annotations.{Annotations}
 use Rattle.layer_model.specs.Classes.{letter_place, rank}
-use Rattle.layer_model.specs.Coherent.{IsCoherent}
 use Rattle.layer_model.specs.Layers.{IsLayer}
 use Rattle.content_keys.specs.Nodes.{AreAlike, IsIn, Node, number}
 use Rattle.content_keys.specs.LayerContents.{content_of, contents_of, ids_of, node_of}
 use Rattle.content_keys.specs.Counterparts.{IsLowest, behind, counterpart_in, first_with}
-use Rattle.content_keys.proofs.BuiltLemmas.{coherent_built}
+use Rattle.content_keys.specs.Places.{AreBuilt}
 use Rattle.content_keys.proofs.ContentLemmas.{content_of_parts}
 use Rattle.content_keys.proofs.IdLemmas.{ids_have, in_ids, same_rank}
 use Rattle.content_keys.proofs.NodeLemmas.{alike, number_alike}
@@ -214,14 +213,14 @@ module _ (layer other : Annotations) (keeps : IsLayer layer) (keep : IsLayer oth
   pub lowest_found : IsLowest layer other id (counterpart_in (contents_of layer) (contents_of other) id)
   lowest_found = by_behind (behind id (contents_of layer)) refl
 
-pub parts_decide : (a b : Annotations) → IsCoherent a → IsCoherent b → (x y : AnnId) (s t : Node AnnId) → node_of a x ≡ Some s → node_of b y ≡ Some t
+pub parts_decide : (a b : Annotations) → AreBuilt a → AreBuilt b → (x y : AnnId) (s t : Node AnnId) → node_of a x ≡ Some s → node_of b y ≡ Some t
     → (content_of a x ≡ content_of b y) ↔ AreAlike (content_of a) (content_of b) s t
 parts_decide a b whole all x y s t p q =
     let m : content_of a x ≡ number (content_of a) s = made a whole x s p in
     let n : content_of b y ≡ number (content_of b) t = made b all y t q in
     (λ e. alike (content_of a) (content_of b) s t (sym m ∙ e ∙ n), λ h. m ∙ number_alike (content_of a) (content_of b) s t h ∙ sym n)
   where
-    made : (l : Annotations) → IsCoherent l → (z : AnnId) (u : Node AnnId) → node_of l z ≡ Some u → content_of l z ≡ number (content_of l) u
+    made : (l : Annotations) → AreBuilt l → (z : AnnId) (u : Node AnnId) → node_of l z ≡ Some u → content_of l z ≡ number (content_of l) u
     made l c z u e =
         let P : Option (Node AnnId) → Type 0 = IsSome in
-        content_of_parts (node_of l) 18 19 z u (coherent_built l c z (subst P (sym e) refl)) (omega arith) e
+        content_of_parts (node_of l) 18 19 z u (c z (subst P (sym e) refl)) (omega arith) e

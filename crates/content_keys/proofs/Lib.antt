@@ -2,7 +2,9 @@ pub mod AddLemmas
 pub mod BagLemmas
 pub mod BuiltLemmas
 pub mod CarryLemmas
+pub mod ClassLemmas
 pub mod ContentLemmas
+pub mod CountLemmas
 pub mod CounterpartLemmas
 pub mod EnterLemmas
 pub mod IdLemmas
@@ -10,6 +12,7 @@ pub mod LawLemmas
 pub mod MoveLemmas
 pub mod NodeLemmas
 pub mod NumberLemmas
+pub mod OneLemmas
 pub mod OrderLemmas
 pub mod PlaceLemmas
 pub mod PlacedLemmas

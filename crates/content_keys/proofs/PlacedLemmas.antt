@@ -23,7 +23,7 @@ use Rattle.content_keys.proofs.ContentLemmas.{Parts, parts, content_of_parts}
 none_some : {X : Type 0} {x : X} → None ≡ Some x → ⊥
 none_some e = cc
 
-is_there : (o : Option ℕ) → IsSome o → o ≡ None → ⊥
+pub is_there : (o : Option ℕ) → IsSome o → o ≡ None → ⊥
 is_there None h e = no h
   where
     no : IsSome {T = ℕ} None → ⊥

@@ -14,10 +14,11 @@ use Rattle.layer_model.specs.declared.attribute.Attribute.{Attribute}
 use Rattle.layer_model.specs.declared.normal.Normal.{Normal}
 use Rattle.layer_model.specs.declared.mark.Mark.{Mark}
 use Rattle.layer_model.specs.declared.mark.Mark.TheVariants as marked
+use Rattle.layer_model.specs.declared.class.Class.{Class}
 use Rattle.layer_model.specs.Annotations.{Annotations}
 use Rattle.layer_model.specs.Coherent.{trigger_id}
 use Rattle.layer_model.specs.Layers.{mark_at, numbers}
-use Rattle.content_keys.specs.Nodes.{Node}
+use Rattle.content_keys.specs.Nodes.{Node, number}
 use Rattle.content_keys.specs.Contents.{content}
 
 -- ---- what a mark is made of
@@ -103,3 +104,17 @@ ids_of layer = flat_map (ids_of_letter layer) letters
 -- the contents of a layer, each behind its ID
 abbrev pub contents_of : Annotations → List (AnnId × ℕ)
 contents_of layer = map (λ id. (id, content_of layer id)) (ids_of layer)
+
+-- ---- the classes of a layer
+
+-- a class: its type and the bag of its members, none of which stands twice
+abbrev pub class_node : Class → Node AnnId
+class_node class = record { own = 5 ∷ class.kind.n ∷ []; named = []; bag = map (λ member. (0, member)) class.members }
+
+-- the content of a class, where `contents` tells those of its members: so it does not tell of their order
+abbrev pub class_content : (AnnId → ℕ) → Class → ℕ
+class_content contents class = number contents (class_node class)
+
+-- the contents of the classes of a layer
+abbrev pub class_contents_of : Annotations → List ℕ
+class_contents_of layer = map (class_content (content_of layer)) layer.classes

@@ -1,11 +1,11 @@
 //! The contents of several layers in one table.
-ghost use Rattle.std.specs.Prelude.{◌≡◌, ℕ, ◌<◌, [], length, All, IfOk, slice_index};
+ghost use Rattle.std.specs.Prelude.{◌≡◌, ℕ, ◌<◌, [], length, map, All, IfOk, slice_index};
 ghost use Rattle.layer_model.specs.Coherent.{IsCoherent};
-ghost use Rattle.content_keys.specs.LayerContents.{contents_of};
+ghost use Rattle.content_keys.specs.LayerContents.{class_contents_of, contents_of};
 ghost use Rattle.content_keys.specs.Places.{contents_at};
 ghost use Rattle.content_keys.specs.Tables.{Starts};
 
-use crate::places::{Placed, placed_in};
+use crate::places::{PlacedLayer, layer_placed_in};
 use crate::table::Table;
 use layer_model::Layer;
 use mark_base::Memory;
@@ -45,17 +45,20 @@ impl ContentTable {
         self.table.count()
     }
 
-    /// The places of the annotations of a well-formed layer that have a content, by letter, then by
-    /// number. Contents that the table lacks are added behind its others, which keep their places, also
-    /// where memory is wanting. A table of 4,294,967,295 contents takes no more, and answers want of memory.
-    /// Cost: 20 look-ups for each annotation.
-    pub fn place(&mut self, alloc: Global, layer: &Layer) -> Result<Vec<Placed>, Memory>
+    /// The places of the annotations of a well-formed layer that have a content, and of its classes.
+    /// Contents that the table lacks are added behind its others, which keep their places, also where memory
+    /// is wanting. A table of 4,294,967,295 contents takes no more, and answers want of memory.
+    /// Cost: 20 look-ups for each annotation, one for each class.
+    pub fn place(&mut self, layer: &Layer) -> Result<PlacedLayer, Memory>
         requires { IsCoherent layer.now }
-        ensures contents { IfOk result (λ placed. contents_at self.new placed.items ≡ contents_of layer.now) }
-        ensures within { IfOk result (λ placed. All (λ p. p.place < length self.new) placed.items) }
+        ensures contents { IfOk result (λ placed. contents_at self.new placed.marks.items ≡ contents_of layer.now) }
+        ensures classes { IfOk result (λ placed. map (slice_index self.new) placed.classes.items ≡ class_contents_of layer.now) }
+        ensures within { IfOk result (λ placed. All (λ p. p.place < length self.new) placed.marks.items) }
+        ensures classes_within { IfOk result (λ placed. All (λ place. place < length self.new) placed.classes.items) }
         ensures grown { Starts self.old self.new }
     {
-        placed_in(alloc, layer, &mut self.table)
+        let alloc = self.table.allocator();
+        layer_placed_in(alloc, layer, &mut self.table)
     }
 
     /// Tells a proof that no content has two places. It does nothing.

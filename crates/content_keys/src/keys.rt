@@ -1,5 +1,5 @@
 //! The contents of a layer.
-ghost use Rattle.std.specs.Prelude.{◌≡◌, IfOk, map};
+ghost use Rattle.std.specs.Prelude.{◌≡◌, ℕ, ◌<◌, All, IfOk, None, map, slice_index_or};
 ghost use Rattle.mark_base.specs.declared.ann_id.AnnId.{AnnId};
 ghost use Rattle.layer_model.specs.Coherent.{IsCoherent};
 ghost use Rattle.content_keys.specs.Counterparts.{counterpart_among, counterpart_in, counterparts_in};
@@ -40,16 +40,31 @@ impl Model for Keys {
     ghost invariant = { λ keys. All (λ p. p.place < length keys.table) keys.placed.items };
 }
 
-/// The first annotation at a place.
-fn first_at(placed: &[Placed], place: u32) -> Option<AnnId>
-    ensures { result ≡ first_at placed.now place }
+/// For each place the first annotation there, so far as there is one.
+fn first_by_place(
+    alloc: Global,
+    placed: &[Placed],
+    count: usize,
+) -> Result<Vec<Option<AnnId>>, Memory>
+    requires { All (λ p. p.place < count) placed.now }
+    ensures { IfOk result (λ firsts. (place : ℕ) → slice_index_or firsts.items place None ≡ first_at placed.now place) }
 {
+    let mut firsts: Vec<Option<AnnId>> = vec![in alloc; None; count]?;
     for one in placed {
-        if one.place == place {
-            return Some(one.id);
+        let place = one.place as usize;
+        if firsts[place].is_none() {
+            firsts[place] = Some(one.id);
         }
     }
-    None
+    Ok(firsts)
+}
+
+/// The annotation of a place among these.
+fn annotation_at(firsts: &[Option<AnnId>], place: u32) -> Option<AnnId>
+    ensures { result ≡ slice_index_or firsts.now place None }
+{
+    let at = place as usize;
+    if at < firsts.len() { firsts[at] } else { None }
 }
 
 /// For each annotation the first of the others at the place where its place moves to.
@@ -58,13 +73,16 @@ fn found_by(
     placed: &[Placed],
     moves: &[Option<u32>],
     others: &[Placed],
+    count: usize,
 ) -> Result<Vec<Found>, Memory>
+    requires { All (λ p. p.place < count) others.now }
     ensures { IfOk result (λ found. map pair_of found.items ≡ map (found_at moves.now others.now) placed.now) }
 {
+    let firsts = first_by_place(alloc, others, count)?;
     let mut found = Vec::new(alloc);
     for one in placed {
         let there = match move_at(moves, one.place) {
-            Some(place) => first_at(others, place),
+            Some(place) => annotation_at(firsts.as_slice(), place),
             None => None,
         };
         found.push(Found { id: one.id, there })?;
@@ -84,8 +102,8 @@ impl Keys {
         Ok(Keys { table, placed })
     }
 
-    /// The counterparts of these annotations in the other layer. Cost: one look-up for each content, and
-    /// for each of these annotations the annotations of the other layer up to its counterpart.
+    /// The counterparts of these annotations in the other layer. Cost: one look-up for each content of this
+    /// layer in the other's, and the annotations of both layers.
     pub fn toward(&self, other: &Keys) -> Result<Counterparts, Memory>
         ensures all { IfOk result (λ found. found ≡ counterparts_in self.now other.now) }
         ensures each { IfOk result (λ found. (id : AnnId) → counterpart_among found id ≡ counterpart_in self.now other.now id) }
@@ -97,6 +115,7 @@ impl Keys {
             self.placed.as_slice(),
             moves.as_slice(),
             other.placed.as_slice(),
+            other.table.count(),
         )?;
         other.table.is_table();
         Ok(Counterparts::of(found))

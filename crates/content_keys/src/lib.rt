@@ -39,6 +39,9 @@ mod worked_rows;
 pub use crate::content_table::ContentTable;
 pub use crate::counterparts::Counterparts;
 pub use crate::keys::Keys;
-pub use crate::laws::{contents_are_their_parts, counterparts_are_lowest};
-pub use crate::places::Placed;
+pub use crate::laws::{
+    bags_are_counts, coherent_layers_are_built, contents_are_their_parts, counterparts_are_lowest,
+    one_annotation_has_a_content,
+};
+pub use crate::places::{Placed, PlacedLayer};
 pub use crate::worked_rows::{examples_of_contents, examples_of_counterparts};

@@ -1,10 +1,10 @@
 //! What the annotations of a layer are made of.
 ghost use Rattle.std.specs.Prelude.{◌≡◌, ◌++◌, map, IfOk, OnOk, option_map};
 ghost use Rattle.layer_model.specs.Coherent.{trigger_id};
-ghost use Rattle.content_keys.specs.LayerContents.{attribute_node, ends_of, event_node, measured, node_of, normal_node, relation_node, span_node};
+ghost use Rattle.content_keys.specs.LayerContents.{attribute_node, class_node, ends_of, event_node, measured, node_of, normal_node, relation_node, span_node};
 ghost use Rattle.content_keys.specs.Parts.{made_of};
 
-use layer_model::{Attribute, Event, Layer, Normal, Relation, Span};
+use layer_model::{Attribute, Class, Event, Layer, Normal, Relation, Span};
 use mark_base::{AnnId, Arg, Frag, Kind, Memory};
 use std::alloc::Global;
 
@@ -145,4 +145,22 @@ pub(crate) fn parts_of(alloc: Global, layer: &Layer, id: AnnId) -> Result<Option
         Kind::Note => return Ok(None),
     };
     Ok(Some(parts))
+}
+
+/// What a class is made of. Cost: its members.
+pub(crate) fn class_parts(alloc: Global, class: &Class) -> Result<Parts, Memory>
+    ensures { IfOk result (λ parts. made_of parts ≡ class_node class.now) }
+{
+    let mut own = Vec::new(alloc);
+    own.push(5)?;
+    own.push(u64::from(class.kind.n))?;
+    let mut args = Vec::new(alloc);
+    for member in class.members.items() {
+        args.push(Arg {
+            role: 0,
+            target: *member,
+        })?;
+    }
+    let named = Vec::new(alloc);
+    Ok(Parts { own, named, args })
 }

@@ -1,19 +1,21 @@
 //! The annotations of a layer, placed in a table of contents.
 ghost use Rattle.std.specs.Prelude.{◌≡◌, ℕ, suc, ◌<◌, List, length, map, All, IfOk, IfSome, IsSome, OnOk, Some, option_map, slice_index};
+ghost use Rattle.layer_model.specs.Coherent.{IsCoherent};
 ghost use Rattle.layer_model.specs.Layers.{IsLayer};
+ghost use Rattle.mark_base.specs.declared.ann_id.AnnId.{AnnId};
 ghost use Rattle.content_keys.specs.Carrying.{all_linked, all_moved, Carries};
-ghost use Rattle.content_keys.specs.LayerContents.{content_of, contents_of, ids_of, link_of, node_of};
-ghost use Rattle.content_keys.specs.Nodes.{Names, number};
+ghost use Rattle.content_keys.specs.LayerContents.{class_content, class_contents_of, content_of, contents_of, ids_of, link_of, node_of};
+ghost use Rattle.content_keys.specs.Nodes.{IsIn, Names, number};
 ghost use Rattle.content_keys.specs.Parts.{made_of};
 ghost use Rattle.content_keys.specs.Places.{AreBuilt, ArePlaced, AreRight, Keeps, contents_at, place_of};
 ghost use Rattle.content_keys.specs.Tables.{MayAdd, Starts, values};
 
 use crate::carrying::order;
 use crate::ids::ids_of;
-use crate::parts::{Parts, parts_of};
+use crate::parts::{Parts, class_parts, parts_of};
 use crate::shape::Shape;
 use crate::table::Table;
-use layer_model::{Layer, rank};
+use layer_model::{Class, Layer, rank};
 use mark_base::{AnnId, Arg, Memory};
 use std::alloc::Global;
 use std::collections::BTreeMap;
@@ -23,6 +25,14 @@ use std::collections::BTreeMap;
 pub struct Placed {
     pub id: AnnId,
     pub place: u32,
+}
+
+/// A layer by the places of its contents: its annotations that have one, by letter, then by number, and its
+/// classes in their order.
+#[derive(Debug, Drop)]
+pub struct PlacedLayer {
+    pub marks: Vec<Placed>,
+    pub classes: Vec<u32>,
 }
 
 /// The place of an annotation.
@@ -183,6 +193,31 @@ fn place_all(
     Ok(places)
 }
 
+/// The annotations in the order of their IDs, each with its place.
+fn listed(
+    alloc: Global,
+    layer: &Layer,
+    ids: &[AnnId],
+    places: &BTreeMap<u64, u32>,
+    table: &Table,
+) -> Result<Vec<Placed>, Memory>
+    requires built { AreBuilt layer.now }
+    requires keeps { IsLayer layer.now }
+    requires all { ids.now ≡ ids_of layer.now }
+    requires right { AreRight layer.now table.now places.now }
+    requires placed { ArePlaced 19 layer.now places.now }
+    ensures contents { IfOk result (λ placed. contents_at (values table.now) placed.items ≡ contents_of layer.now) }
+    ensures within { IfOk result (λ placed. All (λ p. p.place < length table.now) placed.items) }
+{
+    let mut placed = Vec::new(alloc);
+    for id in ids {
+        if let Some(place) = place_of(places, *id) {
+            placed.push(Placed { id: *id, place })?;
+        }
+    }
+    Ok(placed)
+}
+
 /// The places of the annotations of a layer that have a content, in their order. The contents that the
 /// table lacks are added behind its others. Cost: 19 look-ups for each annotation.
 pub(crate) fn placed_in(
@@ -198,11 +233,76 @@ pub(crate) fn placed_in(
     layer.keeps();
     let ids = ids_of(alloc, layer)?;
     let places = place_all(alloc, layer, ids.as_slice(), table)?;
+    listed(alloc, layer, ids.as_slice(), &places, table)
+}
+
+/// The place of the content of a class.
+fn place_class(
+    alloc: Global,
+    layer: &Layer,
+    places: &BTreeMap<u64, u32>,
+    class: &Class,
+    table: &mut Table,
+) -> Result<u32, Memory>
+    requires right { AreRight layer.now table.old places.now }
+    requires members { (member : AnnId) → IsIn member class.now.members → IsSome (place_of places.now member) }
+    ensures right { OnOk result (AreRight layer.now table.new places.now) }
+    ensures content { IfOk result (λ place. (place < length table.new) × (slice_index (values table.new) place ≡ class_content (content_of layer.now) class.now)) }
+    ensures grown { Starts table.old table.new }
+{
+    let parts = class_parts(alloc, class)?;
+    let Some(shape) = shape_of(alloc, places, parts)? else {
+        unreachable!()
+    };
+    if table.is_full() {
+        return Err(Memory);
+    }
+    let place = table.add(alloc, shape)?;
+    table.is_table();
+    Ok(place)
+}
+
+/// The places of the classes of a layer, in their order.
+fn place_classes(
+    alloc: Global,
+    layer: &Layer,
+    places: &BTreeMap<u64, u32>,
+    table: &mut Table,
+) -> Result<Vec<u32>, Memory>
+    requires whole { IsCoherent layer.now }
+    requires right { AreRight layer.now table.old places.now }
+    requires placed { ArePlaced 19 layer.now places.now }
+    ensures right { OnOk result (AreRight layer.now table.new places.now) }
+    ensures contents { IfOk result (λ placed. map (slice_index (values table.new)) placed.items ≡ class_contents_of layer.now) }
+    ensures within { IfOk result (λ placed. All (λ place. place < length table.new) placed.items) }
+    ensures grown { Starts table.old table.new }
+{
     let mut placed = Vec::new(alloc);
-    for id in &ids {
-        if let Some(place) = place_of(&places, *id) {
-            placed.push(Placed { id: *id, place })?;
-        }
+    for class in layer.classes() {
+        let place = place_class(alloc, layer, places, class, table)?;
+        placed.push(place)?;
     }
     Ok(placed)
+}
+
+/// The places of the annotations and classes of a layer. The contents that the table lacks are added behind
+/// its others. Cost: 19 look-ups for each annotation, one for each class.
+pub(crate) fn layer_placed_in(
+    alloc: Global,
+    layer: &Layer,
+    table: &mut Table,
+) -> Result<PlacedLayer, Memory>
+    requires { IsCoherent layer.now }
+    ensures contents { IfOk result (λ placed. contents_at (values table.new) placed.marks.items ≡ contents_of layer.now) }
+    ensures classes { IfOk result (λ placed. map (slice_index (values table.new)) placed.classes.items ≡ class_contents_of layer.now) }
+    ensures within { IfOk result (λ placed. All (λ p. p.place < length table.new) placed.marks.items) }
+    ensures classes_within { IfOk result (λ placed. All (λ place. place < length table.new) placed.classes.items) }
+    ensures grown { Starts table.old table.new }
+{
+    layer.keeps();
+    let ids = ids_of(alloc, layer)?;
+    let places = place_all(alloc, layer, ids.as_slice(), table)?;
+    let classes = place_classes(alloc, layer, &places, table)?;
+    let marks = listed(alloc, layer, ids.as_slice(), &places, table)?;
+    Ok(PlacedLayer { marks, classes })
 }

@@ -44,6 +44,11 @@ impl Table {
         }
     }
 
+    /// The allocator of the table.
+    pub(crate) fn allocator(&self) -> Global {
+        *self.shapes.allocator()
+    }
+
     /// Whether the table has all the contents that places of 32 bits can number.
     pub(crate) fn is_full(&self) -> bool
         ensures { result ≡ false → length self.now < 4294967295 }

@@ -1,0 +1,15 @@
+//! A curator's decisions on the items of a snapshot, and the layer that they make.
+//!
+//! An item is in where it is unanimous or accepted, and not rejected. The curated layer has the items that
+//! are in, numbered anew, and the unanimous classes whose members are all in.
+#![tactic(auto)]
+
+mod decision_fault;
+mod decisions;
+mod verdict;
+mod worked_rows;
+
+pub use crate::decision_fault::DecisionFault;
+pub use crate::decisions::Decisions;
+pub use crate::verdict::Verdict;
+pub use crate::worked_rows::{examples_of_curated_layers, examples_of_decisions};

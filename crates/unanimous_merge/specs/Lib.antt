@@ -1,0 +1,5 @@
+pub mod Readings
+pub mod Items
+pub mod Unanimous
+pub mod Rows
+pub mod WorkedSnapshots

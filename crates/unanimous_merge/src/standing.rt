@@ -1,0 +1,58 @@
+//! Which layer has which content.
+ghost use Rattle.std.specs.Prelude.{◌≡◌, ℕ, ◌<◌, ◌≤◌, ◌==◌, Bool, false, length, map, All, IfOk, slice_index_or};
+ghost use Rattle.std.specs.List.{list_all, list_any};
+ghost use Rattle.unanimous_merge.specs.Items.{number_of_bits};
+ghost use Rattle.unanimous_merge.specs.Rows.{having};
+
+use mark_base::Memory;
+use std::alloc::Global;
+
+/// The places that a layer has, by place.
+pub(crate) fn marked_places(
+    alloc: Global,
+    places: &[u32],
+    count: usize,
+) -> Result<Vec<bool>, Memory>
+    requires { All (λ place. place < count) places.now }
+    ensures { IfOk result (λ has. (place : ℕ) → slice_index_or has.items place false ≡ list_any (λ one. one == place) places.now) }
+{
+    let mut has: Vec<bool> = vec![in alloc; false; count]?;
+    for place in places {
+        has[*place as usize] = true;
+    }
+    Ok(has)
+}
+
+/// Whether a layer has a place.
+fn has_place(row: &[bool], place: u32) -> bool
+    ensures { result ≡ slice_index_or row.now place false }
+{
+    let at = place as usize;
+    if at < row.len() { row[at] } else { false }
+}
+
+/// Whether each layer has a place. Cost: the layers.
+pub(crate) fn in_each(rows: &[Vec<bool>], place: u32) -> bool
+    ensures { result ≡ list_all (λ one. one) (having place (map (λ row. row.items) rows.now)) }
+{
+    for row in rows {
+        if !has_place(row.as_slice(), place) {
+            return false;
+        }
+    }
+    true
+}
+
+/// The layers that have a place, a bit each, the lowest for the first. Cost: the layers.
+pub(crate) fn holders_of(rows: &[Vec<bool>], place: u32) -> u16
+    requires { length rows.now ≤ 16 }
+    ensures { result ≡ number_of_bits (having place (map (λ row. row.items) rows.now)) }
+{
+    let mut holders: u32 = 0;
+    let mut left = rows.len();
+    while left > 0 {
+        left -= 1;
+        holders = 2 * holders + u32::from(has_place(rows[left].as_slice(), place));
+    }
+    holders as u16
+}
