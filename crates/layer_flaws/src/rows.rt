@@ -12,6 +12,9 @@
 //! #1 T1 why            a note
 //! * 1 T1 T2            a class
 //! ```
+//!
+//! In a store, an entry and the text of a note `\s` stands for a blank, `\n` for a line feed, `\r` for a
+//! carriage return, and `\e` for nothing. A row that has no form is told as want of memory.
 ghost use Rattle.std.specs.Prelude.{◌≡◌, IfOk, true};
 ghost use Rattle.layer_model.specs.Layers.{is_of_kind};
 
@@ -47,7 +50,7 @@ pub fn number(word: &str) -> Result<u16, Memory> {
 }
 
 /// An ID.
-pub fn id(word: &str) -> Result<AnnId, Memory> {
+fn id(word: &str) -> Result<AnnId, Memory> {
     match AnnId::read(word.as_bytes()) {
         Some(id) => Ok(id),
         None => Err(Memory),
@@ -71,7 +74,7 @@ fn id_at(words: &[&str], place: usize) -> Result<AnnId, Memory> {
 }
 
 /// A fragment.
-pub fn fragment(word: &str) -> Result<Frag, Memory> {
+fn fragment(word: &str) -> Result<Frag, Memory> {
     let (start, end) = parts(word)?;
     let start = u32::from(number(start)?);
     let end = u32::from(number(end)?);
@@ -145,10 +148,39 @@ fn attribute(words: &[&str]) -> Result<Attribute, Memory> {
     })
 }
 
+/// The character that a letter behind a backslash stands for, if it stands for one.
+fn escaped(letter: char) -> Option<char> {
+    match letter {
+        's' => Some(' '),
+        'n' => Some('\n'),
+        'r' => Some('\r'),
+        _ => None,
+    }
+}
+
+/// The text that a word spells.
+fn text_of(alloc: Global, word: &str) -> Result<Text, Memory> {
+    let mut text = String::new(alloc);
+    let mut behind = false;
+    for letter in word.chars() {
+        if behind {
+            if let Some(letter) = escaped(letter) {
+                text.push(letter)?;
+            }
+            behind = false;
+        } else if letter == '\\' {
+            behind = true;
+        } else {
+            text.push(letter)?;
+        }
+    }
+    Ok(Text::from_string(text))
+}
+
 /// A normalization by `store` and `entry`.
-pub fn normal(alloc: Global, target: AnnId, store: &str, entry: &str) -> Result<Normal, Memory> {
-    let store = Text::of(alloc, store)?;
-    let entry = Text::of(alloc, entry)?;
+fn normal(alloc: Global, target: AnnId, store: &str, entry: &str) -> Result<Normal, Memory> {
+    let store = text_of(alloc, store)?;
+    let entry = text_of(alloc, entry)?;
     let text = Text::of(alloc, "Berlin")?;
     Ok(Normal {
         target,
@@ -166,12 +198,12 @@ fn normal_of(alloc: Global, words: &[&str]) -> Result<Normal, Memory> {
 }
 
 /// A note.
-pub fn note(alloc: Global, target: AnnId, text: &str) -> Result<Note, Memory> {
+fn note(alloc: Global, target: AnnId, text: &str) -> Result<Note, Memory> {
     let kind = match Name::new(alloc, "AnnotatorNotes") {
         Ok(kind) => kind,
         Err(_) => return Err(Memory),
     };
-    let text = Text::of(alloc, text)?;
+    let text = text_of(alloc, text)?;
     Ok(Note { kind, target, text })
 }
 
@@ -196,7 +228,7 @@ fn mark_of(alloc: Global, kind: Kind, words: &[&str]) -> Result<Mark, Memory>
 }
 
 /// Puts a mark where the layer has none.
-pub fn put(layer: &mut Layer, at: AnnId, mark: Mark) -> Result<(), Memory>
+fn put(layer: &mut Layer, at: AnnId, mark: Mark) -> Result<(), Memory>
     requires { is_of_kind at.kind mark ≡ true }
 {
     if layer.has(at) {
