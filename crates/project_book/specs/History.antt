@@ -1,16 +1,17 @@
 -- The history of a project: what happened in turn, at places that count from 1, or go on from the place of a state that was restored.
-use Rattle.std.specs.Prelude.{◌≡◌, ℕ, ◌+◌, ◌-◌, ◌<◌, ◌≤◌, ◌^◌, Bool, true, false, List, [], ◌∷◌, ◌++◌, ◌≢◌, length, get_or, map, sum, take, Option, Some, None, IfSome}
-use Rattle.std.specs.List.{All}
-use Rattle.entry_bytes.specs.declared.person.Person.{Person}
-use Rattle.annotation_conf.specs.Configurations.{Configuration}
-use Rattle.layer_model.specs.Annotations.{Annotations, no_marks}
+use Rattle.std.specs.Prelude.{ℕ, ◌+◌, ◌-◌, ◌==◌, Bool, true, false, List, [], ◌∷◌, ◌++◌, length, map, set, take, drop, nat_lt, slice_get, Option, Some, None, if◌then◌else◌}
+use Rattle.std.specs.List.{filter_map}
+use Rattle.entry_bytes.specs.Entries.{entry_bytes}
+use Rattle.layer_model.specs.Annotations.{Annotations}
 use Rattle.layer_core.specs.declared.command.Command.{Command}
-use Rattle.layer_core.specs.WellFormed.{Obeys}
-use Rattle.layer_undo.specs.Replays.{first_refusal}
-use Rattle.project_book.specs.People.{IsRoster}
-use Rattle.project_book.specs.ProjectState.{Row, Document, ProjectState, annotators, row, set_row, new_document, is_some_out}
-use Rattle.project_book.specs.Requests.{Asked, Happened, Founded, TextAdded, CheckedOut, TakenOver, LayerCommitted, LayerParked, LayerFinished, LayerReopened, LayerIgnored, LayerReadmitted, AllFreed, Restored}
-use Rattle.project_book.specs.Machine.{step}
+use Rattle.unanimous_merge.specs.declared.item.ItemId.{ItemId}
+use Rattle.curator_decisions.specs.declared.verdict.Verdict.{Verdict}
+use Rattle.curator_decisions.specs.Decisions.{with_verdict, without_verdict}
+use Rattle.project_book.specs.ProjectState.{Row, Document, Snapshot, ProjectState, row, set_row, new_document, finished_rows, snapshot}
+use Rattle.project_book.specs.Requests.{Happened, Founded, TextAdded, CheckedOut, TakenOver, LayerCommitted, LayerParked, LayerFinished, LayerReopened, LayerIgnored, LayerReadmitted, SnapshotTaken, ItemDecided, ItemUndecided, AllFreed, Restored}
+use Rattle.project_book.specs.Entries.{entries_of}
+
+-- ---- what each change does
 
 -- a row that is out under a hold, or under none
 abbrev pub under_hold : Option ℕ → Row → Row
@@ -40,9 +41,25 @@ freed d = record d { rows = map (under_hold None) d.rows }
 abbrev pub on_row : ProjectState → ℕ → List ℕ → (Row → Row) → ProjectState
 on_row s doc who changed = set_row s doc who (changed (row s doc who))
 
+-- a snapshot of the layers of a document that are finished
+abbrev pub new_snapshot : ProjectState → ℕ → Snapshot
+new_snapshot s doc = record { doc = doc; holders = finished_rows s doc; verdicts = [] }
+
+-- a snapshot with one verdict more
+abbrev pub with_decision : ItemId → Verdict → Snapshot → Snapshot
+with_decision item verdict shot = record shot { verdicts = with_verdict shot.verdicts item verdict }
+
+-- a snapshot without the verdict on an item
+abbrev pub without_decision : ItemId → Snapshot → Snapshot
+without_decision item shot = record shot { verdicts = without_verdict shot.verdicts item }
+
+-- a project whose snapshot of a number is changed
+abbrev pub on_snapshot : ProjectState → ℕ → (Snapshot → Snapshot) → ProjectState
+on_snapshot s number changed = record s { snapshots = set s.snapshots (number - 1) (changed (snapshot s number)) }
+
 -- a project after what happened at a place, but for the place
 abbrev pub acted : ℕ → Happened → ProjectState → ProjectState
-acted place (Founded conf level people) s = record { conf = conf; level = level; people = people; place = place; documents = [] }
+acted place (Founded conf level people) s = record { conf = conf; level = level; people = people; place = place; documents = []; snapshots = [] }
 acted place (TextAdded by name text) s = record s { documents = s.documents ++ new_document s name text ∷ [] }
 acted place (CheckedOut by doc) s = on_row s doc by (under_hold (Some place))
 acted place (TakenOver by doc) s = on_row s doc by (under_hold (Some place))
@@ -52,6 +69,9 @@ acted place (LayerFinished by doc) s = on_row s doc by (with_finished true)
 acted place (LayerReopened by doc who) s = on_row s doc who (with_finished false)
 acted place (LayerIgnored by doc who) s = on_row s doc who (with_ignored true)
 acted place (LayerReadmitted by doc who) s = on_row s doc who (with_ignored false)
+acted place (SnapshotTaken by doc) s = record s { snapshots = s.snapshots ++ new_snapshot s doc ∷ [] }
+acted place (ItemDecided by number holder id verdict) s = on_snapshot s number (with_decision (record { holder = holder; id = id }) verdict)
+acted place (ItemUndecided by number holder id) s = on_snapshot s number (without_decision (record { holder = holder; id = id }))
 acted place AllFreed s = record s { documents = map freed s.documents }
 acted place (Restored at state) s = state
 
@@ -59,23 +79,41 @@ acted place (Restored at state) s = state
 abbrev pub effect : ℕ → Happened → ProjectState → ProjectState
 effect place happened s = record (acted place happened s) { place = place }
 
+-- ---- places
+
 -- the place of what happened next behind a place: a restored state carries its own
 abbrev pub place_behind : Happened → ℕ → ℕ
 place_behind (Restored at state) before = at
 place_behind happened before = before + 1
 
+-- what happened in turn, each at its place, behind a place
+abbrev pub numbered_from : ℕ → List Happened → List (ℕ × Happened)
+numbered_from before [] = []
+numbered_from before (happened ∷ log) = (place_behind happened before, happened) ∷ numbered_from (place_behind happened before) log
+
+-- a history, each change at its place
+abbrev pub numbered : List Happened → List (ℕ × Happened)
+numbered log = numbered_from 0 log
+
+-- a project after what happened to it at some places in turn
+abbrev pub after_places : ProjectState → List (ℕ × Happened) → ProjectState
+after_places s [] = s
+after_places s (placed ∷ log) = after_places (effect placed.0 placed.1 s) log
+
 -- a project before its history
 abbrev pub unfounded : ProjectState
-unfounded = record { conf = record { types = []; roles = []; relations = []; attributes = []; overlaps = [] }; level = None; people = []; place = 0; documents = [] }
-
--- a project after what happened to it in turn
-abbrev pub after_from : ProjectState → List Happened → ProjectState
-after_from s [] = s
-after_from s (happened ∷ log) = after_from (effect (place_behind happened s.place) happened s) log
+unfounded = record {
+  conf = record { types = []; roles = []; relations = []; attributes = []; overlaps = [] };
+  level = 255;
+  people = [];
+  place = 0;
+  documents = [];
+  snapshots = [];
+}
 
 -- the state after a history
 abbrev pub after : List Happened → ProjectState
-after log = after_from unfounded log
+after log = after_places unfounded (numbered log)
 
 -- the place before the first of a history
 abbrev pub begin : List Happened → ℕ
@@ -90,60 +128,30 @@ last log = begin log + length log
 abbrev pub upto : ℕ → List Happened → List Happened
 upto place log = take (place - begin log) log
 
--- a committed layer obeys the configuration on a text of so many characters
-abbrev pub RowObeys : Configuration → ℕ → Row → Type 0
-RowObeys conf characters r = 0 < r.revision → Obeys conf characters r.layer
+-- what happened above a place
+abbrev pub above : ℕ → List Happened → List Happened
+above place log = drop (place - begin log) log
 
--- each committed layer of a document obeys the configuration
-abbrev pub DocumentObeys : Configuration → Document → Type 0
-DocumentObeys conf d = All (RowObeys conf (length d.text)) d.rows
+-- what happened at a place
+abbrev pub change_at : ℕ → List Happened → Option Happened
+change_at place log = if nat_lt (begin log) place then slice_get log (place - begin log - 1) else None
 
--- each committed layer of a project obeys its configuration
-abbrev pub LayersObey : ProjectState → Type 0
-LayersObey s = All (DocumentObeys s.conf) s.documents
+-- the place of a commit under a hold
+abbrev pub commit_place : ℕ → ℕ × Happened → Option ℕ
+commit_place hold (place, LayerCommitted by doc under layer) = if under == hold then Some place else None
+commit_place hold (place, happened) = None
 
--- a row as steps leave it: its layer obeys, its scripts are not refused from it, its commits and its hold are not above the place, and nothing is set where nothing was committed
-pub record IsRowKept (conf : Configuration) (characters place : ℕ) (r : Row) : Type 0 where
-  pub obeys : RowObeys conf characters r
-  pub accepted : first_refusal conf characters r.layer r.done r.undone ≡ None
-  pub counted : r.revision ≤ place
-  pub held : IfSome r.hold (λ hold. hold ≤ place)
-  pub layer : r.revision ≡ 0 → r.layer ≡ no_marks
-  pub finished : r.revision ≡ 0 → r.finished ≡ false
-  pub ignored : r.revision ≡ 0 → r.ignored ≡ false
+-- the places of the commits under a hold
+abbrev pub commits_under : ℕ → List Happened → List ℕ
+commits_under hold log = filter_map (commit_place hold) (numbered log)
 
--- a document as steps leave it: a row for each of so many annotators, each as steps leave it
-pub record IsDocumentKept (conf : Configuration) (raters place : ℕ) (d : Document) : Type 0 where
-  pub rows_are : length d.rows ≡ raters
-  pub rows_kept : All (IsRowKept conf (length d.text) place) d.rows
+-- ---- as entries
 
--- names that differ
-abbrev pub NamesDiffer : List (List ℕ) → Type 0
-NamesDiffer names = (i j : ℕ) → i < j → j < length names → get_or names i [] ≢ get_or names j []
+-- the bytes of the entries of what happened to a project at some places in turn
+abbrev pub encoded_from : ProjectState → List (ℕ × Happened) → List (List ℕ)
+encoded_from s [] = []
+encoded_from s (placed ∷ log) = map entry_bytes (entries_of s placed.1) ++ encoded_from (effect placed.0 placed.1 s) log
 
--- a project as steps leave it: the people of a roster, and few documents of different names and few characters
-pub record IsKept (s : ProjectState) : Type 0 where
-  pub people : IsRoster s.people
-  pub few : length s.documents ≤ 4096
-  pub total : sum (map (λ d. length d.text) s.documents) ≤ 16777216
-  pub names : NamesDiffer (map (λ d. d.name) s.documents)
-  pub documents : All (IsDocumentKept s.conf (length (annotators s)) s.place) s.documents
-
--- no text of a project is longer than a document's may be
-abbrev pub HasShortTexts : ProjectState → Type 0
-HasShortTexts s = All (λ d. length d.text ≤ 200000) s.documents
-
--- a project as it can be restored: as steps leave it, with short texts, no layer out, and a place within the limit
-pub record IsSound (s : ProjectState) : Type 0 where
-  pub kept : IsKept s
-  pub short : HasShortTexts s
-  pub free : is_some_out s ≡ false
-  pub placed : 0 < s.place
-  pub low : s.place ≤ 2 ^ 62
-
--- a history: a founding, or a state that was restored, and then what steps make happen, and freeings of layers that are out
-pub data IsLegal : List Happened → Type 0 where
-  legal_founding : (conf : Configuration) (level : Option ℕ) (people : List Person) → IsRoster people → IsLegal (Founded conf level people ∷ [])
-  legal_restored : (state : ProjectState) → IsSound state → IsLegal (Restored state.place state ∷ [])
-  legal_step : (log : List Happened) (caller : List ℕ) (asked : Asked) (happened : Happened) → IsLegal log → (step (after log) caller asked).change ≡ Some happened → IsLegal (log ++ happened ∷ [])
-  legal_freeing : (log : List Happened) → IsLegal log → is_some_out (after log) ≡ true → IsLegal (log ++ AllFreed ∷ [])
+-- the bytes of the entries of a history, a restored state as its pieces
+abbrev pub encoded : List Happened → List (List ℕ)
+encoded log = encoded_from unfounded (numbered log)

@@ -1,6 +1,7 @@
 -- One step of a project: who may ask what, what is tested and in which order, what is answered, and what happens.
-use Rattle.std.specs.Prelude.{ℕ, ◌+◌, ◌==◌, ◌||◌, Bool, true, false, not, List, [], ◌∷◌, length, map, sum, bytes_eq, nat_lt, nat_le, Option, Some, None, option_map, is_some, if◌then◌else◌}
+use Rattle.std.specs.Prelude.{ℕ, ◌+◌, ◌==◌, ◌||◌, Bool, true, false, not, List, [], ◌∷◌, ◌++◌, length, map, sum, bytes_eq, nat_lt, nat_le, Option, Some, None, codes, decimal, option_map, is_some, unwrap_or, if◌then◌else◌}
 use Rattle.std.specs.Option.{option_map_or, option_or}
+use Rattle.entry_bytes.specs.Entries.{entry_bytes}
 use Rattle.annotation_conf.specs.Configurations.{Configuration}
 use Rattle.char_documents.specs.Tokens.{tokens_of}
 use Rattle.layer_model.specs.Annotations.{Annotations}
@@ -8,12 +9,25 @@ use Rattle.layer_model.specs.declared.rule.Rule.{Rule}
 use Rattle.layer_core.specs.declared.command.Command.{Command}
 use Rattle.layer_core.specs.WellFormed.{least_flaw, commit_fault}
 use Rattle.layer_undo.specs.Replays.{first_refusal}
+use Rattle.unanimous_merge.specs.Readings.{readings}
+use Rattle.curator_decisions.specs.declared.decision_fault.DecisionFault.{DecisionFault}
+use Rattle.curator_decisions.specs.declared.decision_fault.DecisionFault.TheVariants as fault
+use Rattle.curator_decisions.specs.DecisionFaults.{decide_fault, undecide_fault}
+use Rattle.curator_decisions.specs.Decisions.{with_verdict, without_verdict}
 use Rattle.project_book.specs.declared.book_refusal.BookRefusal.{BookRefusal}
 use Rattle.project_book.specs.declared.book_refusal.BookRefusal.TheVariants as no
+use Rattle.project_book.specs.declared.book_refusal.Policy.{Policy}
 use Rattle.project_book.specs.declared.book_refusal.Policy.TheVariants as policy
 use Rattle.project_book.specs.declared.doc_line.DocLine.{DocLine}
-use Rattle.project_book.specs.ProjectState.{Row, Document, ProjectState, is_annotator, is_curator, is_there, number_of, document, row_in}
-use Rattle.project_book.specs.Requests.{Asked, ReadConf, ListDocs, ReadText, AddText, Checkout, TakeOver, Commit, Park, Finish, ReadLayer, Reopen, Ignore, Readmit, Out, Answered, Conf, Docs, Text, Added, HandedOut, Committed, Parked, Finished, Layer, Ignored, Refused, Happened, TextAdded, CheckedOut, TakenOver, LayerCommitted, LayerParked, LayerFinished, LayerReopened, LayerIgnored, LayerReadmitted}
+use Rattle.unanimous_merge.specs.declared.item.ItemId.{ItemId}
+use Rattle.curator_decisions.specs.declared.verdict.Verdict.{Verdict}
+use Rattle.layer_core.specs.RuleNames.{id_text, named_by_rule}
+use Rattle.project_book.specs.ProjectState.{Row, Document, Snapshot, ProjectState, annotators, is_annotator, is_curator, is_there, number_of, document, row_in, no_snapshot, finished_rows, is_untaken, snapshot, text_of, is_holder, holder_of, holder_name, item_in}
+use Rattle.project_book.specs.Requests.{Asked, ReadConf, ListDocs, ReadText, AddText, Checkout, TakeOver, Commit, Park, Finish, ReadLayer, Reopen, Ignore, Readmit, Snap, TakeSnapshot, Decide, Undecide, ReadPairs, ReadAlpha, Out, View, Answered, Conf, Docs, Text, Added, HandedOut, Committed, Parked, Finished, Layer, Ignored, Snapped, Taken, Decided, Pairs, Alpha, Refused, Happened, TextAdded, CheckedOut, TakenOver, LayerCommitted, LayerParked, LayerFinished, LayerReopened, LayerIgnored, LayerReadmitted, SnapshotTaken, ItemDecided, ItemUndecided}
+use Rattle.project_book.specs.Entries.{entry_of}
+use Rattle.project_book.specs.Tables.{pair_lines, all_line}
+
+-- ---- who may ask, and what is tested
 
 -- a refusal where a test is met
 abbrev pub when : Bool → BookRefusal → Option BookRefusal
@@ -47,6 +61,12 @@ policies s caller (ReadLayer name who) = when (not (is_curator s caller || bytes
 policies s caller (Reopen name who) = curators_only s caller
 policies s caller (Ignore name who) = curators_only s caller
 policies s caller (Readmit name who) = curators_only s caller
+policies s caller (Snap name) = curators_only s caller
+policies s caller (TakeSnapshot number) = curators_only s caller
+policies s caller (Decide number holder id verdict) = curators_only s caller
+policies s caller (Undecide number holder id) = curators_only s caller
+policies s caller ReadPairs = curators_only s caller
+policies s caller ReadAlpha = curators_only s caller
 
 -- a document of this name must be there
 abbrev pub there : ProjectState → List ℕ → Option BookRefusal
@@ -76,6 +96,26 @@ park_rule conf characters layer done undone = option_map (λ at. at.1) (first_re
 abbrev pub size_of : ProjectState → List ℕ → ℕ
 size_of s name = length (document s (number_of s name)).text
 
+-- a snapshot of this number must have been taken
+abbrev pub taken : ProjectState → ℕ → Option BookRefusal
+taken s number = when (is_untaken s number) no.NoSnapshot
+
+-- at least two layers must be finished
+abbrev pub enough : List (List ℕ × Annotations) → Option BookRefusal
+enough finished = when (nat_lt (length finished) 2) (no.TooFewFinished (length finished))
+
+-- somebody named must hold a layer of a snapshot
+abbrev pub holds : Snapshot → List ℕ → Option BookRefusal
+holds shot who = when (not (is_holder shot who)) (no.Decision fault.NoItem)
+
+-- a verdict on an item must be one that a snapshot admits
+abbrev pub decidable : ProjectState → Snapshot → ItemId → Verdict → Option BookRefusal
+decidable s shot item verdict = option_map no.Decision (decide_fault s.conf (length (text_of s shot)) (readings shot.holders) shot.verdicts item verdict)
+
+-- the verdict on an item must be one that can be taken back
+abbrev pub undecidable : ProjectState → Snapshot → ItemId → Option BookRefusal
+undecidable s shot item = option_map no.Decision (undecide_fault s.conf (length (text_of s shot)) (readings shot.holders) shot.verdicts item)
+
 -- what is tested of a request, in order
 abbrev pub tests : ProjectState → List ℕ → Asked → List (Option BookRefusal)
 tests s caller ReadConf = []
@@ -91,12 +131,54 @@ tests s caller (ReadLayer name who) = there s name ∷ has_layer s who ∷ when 
 tests s caller (Reopen name who) = there s name ∷ has_layer s who ∷ when (not (row_in s name who).finished) no.NotFinished ∷ []
 tests s caller (Ignore name who) = there s name ∷ has_layer s who ∷ when ((row_in s name who).revision == 0) no.NothingCommitted ∷ when (row_in s name who).ignored no.AlreadyIgnored ∷ []
 tests s caller (Readmit name who) = there s name ∷ has_layer s who ∷ when (not (row_in s name who).ignored) no.NotIgnored ∷ []
+tests s caller (Snap name) = there s name ∷ enough (finished_rows s (number_of s name)) ∷ []
+tests s caller (TakeSnapshot number) = taken s number ∷ []
+tests s caller (Decide number holder id verdict) = taken s number ∷ holds (snapshot s number) holder ∷ decidable s (snapshot s number) (item_in (snapshot s number) holder id) verdict ∷ []
+tests s caller (Undecide number holder id) = taken s number ∷ holds (snapshot s number) holder ∷ undecidable s (snapshot s number) (item_in (snapshot s number) holder id) ∷ []
+tests s caller ReadPairs = []
+tests s caller ReadAlpha = []
 
 -- why a request is refused, if it is: the caller must be on the roster, then may ask, then each test in order
 abbrev pub refusal : ProjectState → List ℕ → Asked → Option BookRefusal
 refusal s caller asked =
     option_or (when (not (is_annotator s caller || is_curator s caller)) (no.NotAllowed policy.Roster))
     (option_or (policies s caller asked) (first_of (tests s caller asked)))
+
+-- ---- what a refusal names
+
+-- a policy by its name
+abbrev pub policy_text : Policy → List ℕ
+policy_text policy.Roster = codes "Roster"
+policy_text policy.Annotator = codes "Annotator"
+policy_text policy.Curator = codes "Curator"
+policy_text policy.Own = codes "Own"
+
+-- an item: the name of its holder, and its ID there
+abbrev pub item_text : Snapshot → ItemId → List ℕ
+item_text shot item = holder_name shot item.holder ++ (codes "/" ++ id_text item.id)
+
+-- what a fault of a decision names: the item that is needed, or what a rule names
+abbrev pub fault_text : Configuration → Snapshot → DecisionFault → List ℕ
+fault_text conf shot (fault.NeedsItem item) = item_text shot item
+fault_text conf shot (fault.Broken broken) = unwrap_or (named_by_rule conf broken) []
+fault_text conf shot other = []
+
+-- the snapshot on which a request asks for a decision
+abbrev pub decided_snapshot : ProjectState → Asked → Snapshot
+decided_snapshot s (Decide number holder id verdict) = snapshot s number
+decided_snapshot s (Undecide number holder id) = snapshot s number
+decided_snapshot s asked = no_snapshot
+
+-- what a refusal of a request names: a policy, a number, an item, or what a rule names; nothing else names anything
+abbrev pub of_text : ProjectState → Asked → BookRefusal → List ℕ
+of_text s asked (no.NotAllowed wanted) = policy_text wanted
+of_text s asked (no.TooFewFinished finished) = decimal finished
+of_text s asked (no.Broken broken) = unwrap_or (named_by_rule s.conf broken) []
+of_text s asked (no.Decision decision) = fault_text s.conf (decided_snapshot s asked) decision
+of_text s asked (no.EntryTooLong bytes) = decimal bytes
+of_text s asked refusal = []
+
+-- ---- what is answered, and what happens
 
 -- a document in the list of documents
 abbrev pub line_of : Document → DocLine
@@ -105,6 +187,10 @@ line_of d = record { name = d.name; characters = length d.text }
 -- a layer that is handed out at the next place
 abbrev pub out_of : ProjectState → Document → Row → Out
 out_of s d r = record { hold = s.place + 1; revision = r.revision; base = r.layer; done = r.done; undone = r.undone; text = d.text; conf = s.conf }
+
+-- a snapshot as it is read
+abbrev pub view_of : ProjectState → Snapshot → View
+view_of s shot = record { holders = shot.holders; verdicts = shot.verdicts; text = text_of s shot; conf = s.conf }
 
 -- the answer to a request that is not refused
 abbrev pub reply : ProjectState → List ℕ → Asked → Answered
@@ -121,6 +207,12 @@ reply s caller (ReadLayer name who) = Layer (row_in s name who).layer (document 
 reply s caller (Reopen name who) = Finished false
 reply s caller (Ignore name who) = Ignored true
 reply s caller (Readmit name who) = Ignored false
+reply s caller (Snap name) = Snapped (length s.snapshots + 1) (length (finished_rows s (number_of s name)))
+reply s caller (TakeSnapshot number) = Taken (view_of s (snapshot s number))
+reply s caller (Decide number holder id verdict) = Decided (length (with_verdict (snapshot s number).verdicts (item_in (snapshot s number) holder id) verdict))
+reply s caller (Undecide number holder id) = Decided (length (without_verdict (snapshot s number).verdicts (item_in (snapshot s number) holder id)))
+reply s caller ReadPairs = Pairs (annotators s) (pair_lines s)
+reply s caller ReadAlpha = Alpha (all_line s)
 
 -- what a request that is not refused makes happen
 abbrev pub change : ProjectState → List ℕ → Asked → Option Happened
@@ -137,6 +229,12 @@ change s caller (ReadLayer name who) = None
 change s caller (Reopen name who) = Some (LayerReopened caller (number_of s name) who)
 change s caller (Ignore name who) = Some (LayerIgnored caller (number_of s name) who)
 change s caller (Readmit name who) = Some (LayerReadmitted caller (number_of s name) who)
+change s caller (Snap name) = Some (SnapshotTaken caller (number_of s name))
+change s caller (TakeSnapshot number) = None
+change s caller (Decide number holder id verdict) = Some (ItemDecided caller number (holder_of (snapshot s number) holder) id verdict)
+change s caller (Undecide number holder id) = Some (ItemUndecided caller number (holder_of (snapshot s number) holder) id)
+change s caller ReadPairs = None
+change s caller ReadAlpha = None
 
 -- what a project answers, and what happens
 pub record Step : Type 0 where
@@ -144,10 +242,25 @@ pub record Step : Type 0 where
   pub change : Option Happened
 
 -- a refusal changes nothing
-abbrev pub unless : Option BookRefusal → Answered → Option Happened → Step
-unless (Some refusal) answer happened = record { answer = Refused refusal; change = None }
-unless None answer happened = record { answer = answer; change = happened }
+abbrev pub refused : ProjectState → Asked → BookRefusal → Step
+refused s asked refusal = record { answer = Refused refusal (of_text s asked refusal); change = None }
 
--- one step of a project: what it answers a caller, and what happens
+-- how many bytes the entry of a change has
+abbrev pub size_in : ProjectState → Happened → ℕ
+size_in s happened = length (entry_bytes (entry_of s happened))
+
+-- a change whose entry is longer than a journal takes is refused
+abbrev pub bounded : ProjectState → Asked → Answered → Option Happened → Step
+bounded s asked answer None = record { answer = answer; change = None }
+bounded s asked answer (Some happened) =
+    if nat_lt 16777216 (size_in s happened) then refused s asked (no.EntryTooLong (size_in s happened))
+    else record { answer = answer; change = Some happened }
+
+-- what is answered, and what happens, unless there is a refusal
+abbrev pub unless : ProjectState → Asked → Option BookRefusal → Answered → Option Happened → Step
+unless s asked (Some refusal) answer happened = refused s asked refusal
+unless s asked None answer happened = bounded s asked answer happened
+
+-- one step of a project: what it answers a caller, and what happens; the length of the entry is tested last
 abbrev pub step : ProjectState → List ℕ → Asked → Step
-step s caller asked = unless (refusal s caller asked) (reply s caller asked) (change s caller asked)
+step s caller asked = unless s asked (refusal s caller asked) (reply s caller asked) (change s caller asked)

@@ -10,8 +10,9 @@
 //! ```
 //!
 //! A project is one state machine. `specs/Machine.antt` defines what a request of a caller is answered and
-//! what it makes happen in a state, and `specs/History.antt` the state after what happened in turn, and
-//! which histories there can be.
+//! what it makes happen in a state, `specs/History.antt` the state after what happened in turn,
+//! `specs/Legal.antt` which histories there can be and what the state behind each keeps, and
+//! `specs/Entries.antt` the entries by which a journal keeps a history.
 #![tactic(auto)]
 
 mod book_refusal;
@@ -24,9 +25,12 @@ mod worked_steps;
 pub use crate::book_refusal::{BookRefusal, Policy};
 pub use crate::doc_line::DocLine;
 pub use crate::laws::{
-    annotators_change_their_own_rows, committed_layers_obey, histories_go_on,
-    states_can_be_restored,
+    annotators_are_shown_their_own, annotators_change_their_own_rows, changes_tell_their_requests,
+    committed_layers_obey, histories_go_on, openings_can_be_repeated, places_stand,
+    rosters_can_found, snapshots_stay, states_can_be_restored, views_can_be_curated,
 };
 pub use crate::roster::Roster;
 pub use crate::roster_fault::RosterFault;
-pub use crate::worked_steps::{examples_of_histories, examples_of_steps};
+pub use crate::worked_steps::{
+    examples_of_broken_layers, examples_of_histories, examples_of_snapshots, examples_of_steps,
+};

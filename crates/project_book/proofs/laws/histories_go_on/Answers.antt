@@ -1,13 +1,18 @@
+use Rattle.project_book.proofs.OpenLemmas.{own_next}
 use Rattle.std.proofs.Common.{◌-◌, arith}
-use Rattle.project_book.specs.History.{begin, legal_step}
+use Rattle.project_book.specs.History.{begin}
+use Rattle.project_book.specs.Legal.{legal_step}
 use Rattle.project_book.proofs.HistoryLemmas.{front_legal, place_last}
 use Rattle.project_book.proofs.laws.histories_go_on.Goals as goal
 
 pub returns-clause-step : goal.returns-clause-step
-returns-clause-step c = λ log caller asked happened legal is. legal_step log caller asked happened legal is
+returns-clause-step c = λ log caller asked happened legal typed is. legal_step log caller asked happened legal typed is
 
 pub returns-clause-upto : goal.returns-clause-upto
 returns-clause-upto c = λ log place legal behind. front_legal (place - begin log) log legal (omega arith)
 
 pub returns-clause-place : goal.returns-clause-place
 returns-clause-place c = place_last
+
+pub returns-clause-handed : goal.returns-clause-handed
+returns-clause-handed c = own_next
