@@ -1,3 +1,14 @@
+mod CommandAccepted
+mod CommandFieldLaws
+mod CommandIds
+mod CommandLaws
+mod CommandLists
+mod CommandLoads
+mod CommandNames
+mod CommandScripts
+mod CommandScriptsRead
+mod CommandTyped
+mod CommandUtf8
 mod EmptyLemmas
 mod HistoryLemmas
 mod KeptLemmas

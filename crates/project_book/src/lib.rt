@@ -16,13 +16,26 @@
 #![tactic(auto)]
 
 mod book_refusal;
+mod command_bytes;
+mod command_cursor;
+mod command_fields;
+mod command_laws;
+mod command_rows;
 mod doc_line;
 mod laws;
+mod load_command;
+mod plain_commands;
+mod read_commands;
 mod roster;
 mod roster_fault;
 mod worked_steps;
 
 pub use crate::book_refusal::{BookRefusal, Policy};
+pub use crate::command_laws::{
+    accepted_scripts_can_be_written, loads_are_read_again, scripts_are_told_apart,
+    scripts_without_loads, typed_scripts_are_read_again,
+};
+pub use crate::command_rows::{examples_of_command_bytes, examples_of_command_reading};
 pub use crate::doc_line::DocLine;
 pub use crate::laws::{
     annotators_are_shown_their_own, annotators_change_their_own_rows, changes_tell_their_requests,
