@@ -1,5 +1,6 @@
 pub mod Appends
 pub mod Creations
+pub mod DiskCalls
 pub mod Exits
 pub mod Headers
 pub mod Moments

@@ -1,8 +1,8 @@
 -- One call more of a disk in memory.
-use Rattle.std.proofs.Common.{◌≡◌, inl, inr, ⊎_elim, ℕ, ◌+◌, List, [], ◌∷◌, ◌++◌, length, take, refl, sym, ◌∙◌, ap, subst, arith, length-append, Some}
+use Rattle.std.proofs.Common.{◌≡◌, ◌⊎◌, ◌↔◌, inl, inr, ⊎_elim, ℕ, ◌+◌, List, [], ◌∷◌, ◌++◌, length, take, refl, sym, ◌∙◌, ap, subst, arith, length-append, Some}
 use Rattle.std.proofs.lemmas.List.{take_all, take-append-le, take_min}
 use Rattle.std.proofs.lemmas.Bool.{cases_lt}
-use Rattle.project_journal.specs.Disk.{Torn, Resized, Follows, NoMore, Durable}
+use Rattle.project_journal.specs.Disk.{Torn, Resized, Reaches, Follows, NoMore, Durable}
 use Rattle.project_journal.specs.Stops.{Elapses}
 use Rattle.project_journal.specs.PastCalls.{after, next, images_after, last, ImageOf, LeftSince, read_is}
 use Rattle.project_journal.specs.declared.past_calls.Effect.{Effect}
@@ -12,6 +12,10 @@ use Rattle.project_journal.specs.declared.past_calls.PastCall.{PastCall}
 pub images_push : (calls : List PastCall) (call : PastCall) (images : List ℕ → Type 0) (c : List ℕ) → images_after images (calls ++ call ∷ []) c → next call call.effect (images_after images calls) c
 images_push [] call images c is = is
 images_push (x ∷ calls) call images c is = images_push calls call (next x x.effect images) c is
+
+pub images_unpush : (calls : List PastCall) (call : PastCall) (images : List ℕ → Type 0) (c : List ℕ) → next call call.effect (images_after images calls) c → images_after images (calls ++ call ∷ []) c
+images_unpush [] call images c is = is
+images_unpush (x ∷ calls) call images c is = images_unpush calls call (next x x.effect images) c is
 
 pub last_push : (calls : List PastCall) (call : PastCall) (start : List ℕ) → last start (calls ++ call ∷ []) ≡ after call
 last_push [] call start = refl
@@ -23,6 +27,25 @@ module _ (start : List ℕ) (calls later : List PastCall) (call : PastCall) (pus
 
   image_now : (effect : Effect) → call.effect ≡ effect → (c : List ℕ) → ImageOf start later c → next call effect (ImageOf start calls) c
   image_now effect is c image = subst (λ (s : Effect). next call s (ImageOf start calls) c) is (images_push calls call (λ d. d ≡ start) c (subst (λ (l : List PastCall). ImageOf start l c) pushed image))
+
+  image_after : (effect : Effect) → call.effect ≡ effect → (c : List ℕ) → next call effect (ImageOf start calls) c → ImageOf start later c
+  image_after effect is c image = subst (λ (l : List PastCall). ImageOf start l c) (sym pushed) (images_unpush calls call (λ d. d ≡ start) c (subst (λ (s : Effect). next call s (ImageOf start calls) c) (sym is) image))
+
+  -- a crash leaves all that the model allows
+  pub all_of_write : (at size : ℕ) (bytes : List ℕ) → call.effect ≡ Wrote at size → after call ≡ bytes → (c : List ℕ) → ImageOf start later c ↔ ((c ≡ bytes) ⊎ Reaches (Torn at size) (ImageOf start calls) c)
+  all_of_write at size bytes step now c = (
+    λ image. ⊎_elim (λ is. inl (is ∙ now)) inr (image_now (Wrote at size) step c image),
+    λ image. image_after (Wrote at size) step c (⊎_elim (λ is. inl (is ∙ sym now)) inr image),
+  )
+
+  pub all_of_cut : (len : ℕ) (bytes : List ℕ) → call.effect ≡ Cut len → after call ≡ bytes → (c : List ℕ) → ImageOf start later c ↔ ((c ≡ bytes) ⊎ Reaches (Resized len) (ImageOf start calls) c)
+  all_of_cut len bytes step now c = (
+    λ image. ⊎_elim (λ is. inl (is ∙ now)) inr (image_now (Cut len) step c image),
+    λ image. image_after (Cut len) step c (⊎_elim (λ is. inl (is ∙ sym now)) inr image),
+  )
+
+  pub all_of_sync : (bytes : List ℕ) → call.effect ≡ Synced → after call ≡ bytes → (c : List ℕ) → ImageOf start later c ↔ (c ≡ bytes)
+  all_of_sync bytes step now c = (λ image. image_now Synced step c image ∙ now, λ is. image_after Synced step c (is ∙ sym now))
 
   pub follows_write : (at size : ℕ) (old new : List ℕ) → call.effect ≡ Wrote at size → last start calls ≡ old → after call ≡ new → Torn at size old new → Follows (Torn at size) (ImageOf start calls) (ImageOf start later)
   follows_write at size old new step whole now torn c image =

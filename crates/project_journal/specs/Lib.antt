@@ -4,6 +4,8 @@ pub mod DiskFails
 pub mod JournalFile
 pub mod Journals
 pub mod Keeper
+pub mod MemoryDisks
+pub mod MemoryKeepers
 pub mod Opening
 pub mod PastCalls
 pub mod RecordLaws

@@ -1,9 +1,11 @@
 //! A disk in memory. It keeps its calls, so that a crash may leave all that the model allows.
-ghost use Rattle.std.specs.Prelude.{◌≡◌, ℕ, ◌+◌, ◌-◌, ◌<◌, ◌≤◌, ◌^◌, ◌++◌, [], ◌∷◌, List, Some, length, refl, vec_len};
+ghost use Rattle.std.specs.Prelude.{◌≡◌, ℕ, ◌+◌, ◌-◌, ◌<◌, ◌≤◌, ◌^◌, ◌++◌, [], ◌∷◌, true, List, Some, length, take, drop, map, min, is_ok, is_err, is_some, IfOk, OnOk, refl, vec_len};
 ghost use Rattle.std.specs.Vec.{vec_capacity};
 ghost use Rattle.project_journal.specs.declared.past_calls.PastCall.{PastCall};
+ghost use Rattle.project_journal.specs.Disk.{written, Torn, Resized, Follows, NoMore, Durable, Changes, Counts, Spends};
 ghost use Rattle.project_journal.specs.DiskFails.{NoFailLeft};
 ghost use Rattle.project_journal.specs.PastCalls.{last, ImageOf, LeftSince, read_is, counts, only};
+ghost use Rattle.project_journal.specs.Stops.{Elapses};
 
 use crate::disk_fails::{answer, next_fail};
 use crate::memory_file::{copy_out, cut_unless, write_unless};
@@ -28,12 +30,16 @@ pub struct MemoryDisk {
 }
 
 impl MemoryDisk {
+    ghost use Rattle.project_journal.specs.MemoryDisks.{fails_of, list_of};
+
     /// A disk that holds these bytes, and nothing else after a crash. The list names the calls that fail;
     /// nothing else does.
     pub fn new(alloc: Global, bytes: Bytes, fails: Vec<DiskFail>) -> Self
         ensures holds { ⟦<MemoryDisk as Disk>⟧.holds result ≡ Some bytes }
         ensures images { (image : List ℕ) → ⟦<MemoryDisk as Disk>⟧.images result image → image ≡ bytes }
         ensures faults { ⟦<MemoryDisk as Disk>⟧.faults result ≡ 0 }
+        ensures list { list_of result ≡ fails.items }
+        ensures fails { fails_of result ≡ record { fails = map (λ fail. fail.call) fails.items; calls = 0; faults = 0 } }
         ensures faultless { fails.items ≡ [] → ⟦<MemoryDisk as Disk>⟧.faultless result }
     {
         let bytes = bytes.into_vec();
@@ -67,6 +73,8 @@ fn note(past: &mut Vec<PastCall>, bytes: &Vec<u8>, effect: Effect)
 }
 
 impl Disk for MemoryDisk {
+    ghost use Rattle.project_journal.specs.MemoryDisks.{fails_of, list_of, bytes_of, resized, overwritten, GoesOn, CallsOnce, SameFile, ChangesFile, SyncsFile};
+
     ghost holds = { λ disk. Some disk.bytes.items };
 
     ghost images = { λ disk. ImageOf disk.start.value.items disk.past.items };
@@ -91,7 +99,17 @@ impl Disk for MemoryDisk {
 
     ghost only_now = { λ disk image left. only disk.start.value.items disk.past.items image left };
 
-    fn reserve(&mut self, calls: u32, end: u64) -> Result<(), Memory> {
+    fn reserve(&mut self, calls: u32, end: u64) -> Result<(), Memory>
+        ensures spare { OnOk result (calls ≤ ⟦<MemoryDisk as Disk>⟧.spare self.new) }
+        ensures reach { OnOk result (end ≤ ⟦<MemoryDisk as Disk>⟧.reach self.new) }
+        ensures below { OnOk result (end < 2 ^ 63) }
+        ensures spare_kept { ⟦<MemoryDisk as Disk>⟧.spare self.old ≤ ⟦<MemoryDisk as Disk>⟧.spare self.new }
+        ensures reach_kept { ⟦<MemoryDisk as Disk>⟧.reach self.old ≤ ⟦<MemoryDisk as Disk>⟧.reach self.new }
+        ensures time { Elapses (⟦<MemoryDisk as Disk>⟧.moment self.old) (⟦<MemoryDisk as Disk>⟧.moment self.new) (⟦<MemoryDisk as Disk>⟧.left_since self.old) (⟦<MemoryDisk as Disk>⟧.left_since self.new) (⟦<MemoryDisk as Disk>⟧.images self.new) }
+        ensures uncounted { fails_of self.new ≡ fails_of self.old }
+        ensures list { list_of self.new ≡ list_of self.old }
+        ensures same { SameFile self.old self.new }
+    {
         if end >= 1 << 63 {
             return Err(Memory);
         }
@@ -103,19 +121,44 @@ impl Disk for MemoryDisk {
         Ok(())
     }
 
-    fn len(&mut self) -> Result<u64, Failed> {
+    fn len(&mut self) -> Result<u64, Failed>
+        requires { 1 ≤ ⟦<MemoryDisk as Disk>⟧.spare self.old }
+        ensures length { IfOk result (λ n. n ≡ length (bytes_of self.old)) }
+        ensures goes { GoesOn self.old self.new (is_ok result) }
+        ensures listed { CallsOnce self.old self.new (is_err result) }
+        ensures same { SameFile self.old self.new }
+    {
         let fail = next_fail(&self.fails, &mut self.calls);
         answer(fail, &mut self.faults)?;
         Ok(self.bytes.len() as u64)
     }
 
-    fn read(&mut self, at: u64, room: &mut [u8]) -> Result<usize, Failed> {
+    fn read(&mut self, at: u64, room: &mut [u8]) -> Result<usize, Failed>
+        requires { 1 ≤ ⟦<MemoryDisk as Disk>⟧.spare self.old }
+        ensures told { IfOk result (λ n. (file : List ℕ) → ⟦<MemoryDisk as Disk>⟧.holds self.old ≡ Some file
+            → (take n room.new ≡ take n (drop at file)) × (n ≤ length (drop at file)) × (at < length file → 0 < length room.old → 0 < n)) }
+        ensures goes { GoesOn self.old self.new (is_ok result) }
+        ensures listed { CallsOnce self.old self.new (is_err result) }
+        ensures same { SameFile self.old self.new }
+        ensures count { IfOk result (λ n. n ≡ min (length room.old) (length (drop at (bytes_of self.old)))) }
+    {
         let fail = next_fail(&self.fails, &mut self.calls);
         answer(fail, &mut self.faults)?;
         Ok(copy_out(&self.bytes, at as usize, room))
     }
 
-    fn write_at(&mut self, at: u64, piece: &[u8]) -> Result<(), Failed> {
+    fn write_at(&mut self, at: u64, piece: &[u8]) -> Result<(), Failed>
+        requires spare { 1 ≤ ⟦<MemoryDisk as Disk>⟧.spare self.old }
+        requires reach { at + length piece.now ≤ ⟦<MemoryDisk as Disk>⟧.reach self.old }
+        ensures written { OnOk result ((file : List ℕ) → ⟦<MemoryDisk as Disk>⟧.holds self.old ≡ Some file → at ≤ length file → ⟦<MemoryDisk as Disk>⟧.holds self.new ≡ Some (written file at piece.now)) }
+        ensures gap { OnOk result ((file : List ℕ) → ⟦<MemoryDisk as Disk>⟧.holds self.old ≡ Some file → length file ≤ at
+            → (front : List ℕ) × (⟦<MemoryDisk as Disk>⟧.holds self.new ≡ Some (front ++ piece.now)) × (length front ≡ at) × (take (length file) front ≡ file)) }
+        ensures changes { Changes (Torn at (length piece.now)) (⟦<MemoryDisk as Disk>⟧.holds self.old) (⟦<MemoryDisk as Disk>⟧.holds self.new) }
+        ensures images { Follows (Torn at (length piece.now)) (⟦<MemoryDisk as Disk>⟧.images self.old) (⟦<MemoryDisk as Disk>⟧.images self.new) }
+        ensures goes { GoesOn self.old self.new (is_ok result) }
+        ensures listed { CallsOnce self.old self.new (is_err result) }
+        ensures exact { ChangesFile (overwritten at piece.now) (Torn at (length piece.now)) self.old self.new (is_err result) }
+    {
         let fail = next_fail(&self.fails, &mut self.calls);
         write_unless(fail, &mut self.bytes, at as usize, piece);
         note(
@@ -126,14 +169,31 @@ impl Disk for MemoryDisk {
         answer(fail, &mut self.faults)
     }
 
-    fn cut(&mut self, len: u64) -> Result<(), Failed> {
+    fn cut(&mut self, len: u64) -> Result<(), Failed>
+        requires spare { 1 ≤ ⟦<MemoryDisk as Disk>⟧.spare self.old }
+        requires reach { len ≤ ⟦<MemoryDisk as Disk>⟧.reach self.old }
+        ensures length { OnOk result ((file : List ℕ) → ⟦<MemoryDisk as Disk>⟧.holds self.new ≡ Some file → length file ≡ len) }
+        ensures resized { OnOk result ((file : List ℕ) → ⟦<MemoryDisk as Disk>⟧.holds self.old ≡ Some file → len ≤ length file → ⟦<MemoryDisk as Disk>⟧.holds self.new ≡ Some (take len file)) }
+        ensures changes { Changes (Resized len) (⟦<MemoryDisk as Disk>⟧.holds self.old) (⟦<MemoryDisk as Disk>⟧.holds self.new) }
+        ensures images { Follows (Resized len) (⟦<MemoryDisk as Disk>⟧.images self.old) (⟦<MemoryDisk as Disk>⟧.images self.new) }
+        ensures goes { GoesOn self.old self.new (is_ok result) }
+        ensures listed { CallsOnce self.old self.new (is_err result) }
+        ensures exact { ChangesFile (resized len) (Resized len) self.old self.new (is_err result) }
+    {
         let fail = next_fail(&self.fails, &mut self.calls);
         cut_unless(fail, &mut self.bytes, len as usize);
         note(&mut self.past, &self.bytes, Effect::Cut(len));
         answer(fail, &mut self.faults)
     }
 
-    fn sync(&mut self) -> Result<(), Failed> {
+    fn sync(&mut self) -> Result<(), Failed>
+        requires { 1 ≤ ⟦<MemoryDisk as Disk>⟧.spare self.old }
+        ensures durable { OnOk result (Durable (⟦<MemoryDisk as Disk>⟧.holds self.new) (⟦<MemoryDisk as Disk>⟧.images self.new)) }
+        ensures images { NoMore (⟦<MemoryDisk as Disk>⟧.images self.old) (⟦<MemoryDisk as Disk>⟧.images self.new) }
+        ensures goes { GoesOn self.old self.new (is_ok result) }
+        ensures listed { CallsOnce self.old self.new (is_err result) }
+        ensures exact { SyncsFile self.old self.new (is_err result) }
+    {
         let fail = next_fail(&self.fails, &mut self.calls);
         answer(fail, &mut self.faults)?;
         note(&mut self.past, &self.bytes, Effect::Synced);

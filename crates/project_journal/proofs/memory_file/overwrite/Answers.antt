@@ -1,8 +1,12 @@
 use Rattle.std.proofs.Common.{◌+◌, ◌-◌, length, replicate, subst, sym, ◌∙◌, ap}
 use Rattle.std.proofs.lemmas.List.{length-replicate}
 use Rattle.project_journal.specs.Disk.{written, Torn}
-use Rattle.project_journal.proofs.Overwrites.{torn_of, written_of, gap_of}
+use Rattle.project_journal.proofs.Overwrites.{overwritten_of, torn_of, written_of, gap_of}
 use Rattle.project_journal.proofs.memory_file.overwrite.Goals as goal
+
+pub returns-clause-exact : goal.returns-clause-exact
+returns-clause-exact c =
+    c.put.ensures.items ∙ ap (λ l. written l c.args.at c.args.piece.now) c.fill.ensures.items ∙ overwritten_of c.args.bytes.now.items c.args.piece.now c.args.at
 
 pub returns-clause-torn : goal.returns-clause-torn
 returns-clause-torn c =
