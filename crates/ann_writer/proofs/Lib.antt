@@ -13,3 +13,5 @@ pub mod RoleWords
 pub mod RoundTrip
 pub mod ShownTexts
 pub mod WritableLemmas
+pub mod WrittenBytes
+pub mod WrittenUtf8

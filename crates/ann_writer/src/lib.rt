@@ -20,5 +20,5 @@ mod words;
 mod write_fault;
 
 pub use crate::ann_file::{ann_bytes, write_ann};
-pub use crate::laws::written_layers_are_read_back;
+pub use crate::laws::{written_layers_are_read_back, written_layers_are_utf8};
 pub use crate::write_fault::WriteAnn;

@@ -1,6 +1,6 @@
 //! Laws of the bytes of commands. The functions do nothing but name the laws that they rest on; each clause is a
 //! law that holds of all commands.
-ghost use Rattle.std.specs.Prelude.{◌≡◌, ◌++◌, ◌<◌, ◌≤◌, ℕ, List, length, get_or, true, None, Some, IsUtf8};
+ghost use Rattle.std.specs.Prelude.{◌≡◌, ◌++◌, ◌<◌, ◌≤◌, ℕ, List, length, get_or, true, None, Some};
 ghost use Rattle.std.specs.List.{AllByRecursion};
 ghost use Rattle.annotation_conf.specs.Configurations.{Configuration};
 ghost use Rattle.layer_model.specs.Annotations.{Annotations};
@@ -15,7 +15,7 @@ ghost use Rattle.project_book.specs.CommandReading.{command_at, scripts_of};
 ghost use Rattle.project_book.specs.Typed.{AreCommands};
 
 use ann_reader::files_of_a_layer;
-use ann_writer::written_layers_are_read_back;
+use ann_writer::{written_layers_are_read_back, written_layers_are_utf8};
 use layer_core::unflawed_layers;
 
 /// The bytes of two scripts are those of no other two, and reading them gives the two.
@@ -37,9 +37,10 @@ pub fn scripts_without_loads()
 
 /// The layer of a load is read again: a well-formed layer has the lines of no other.
 pub fn loads_are_read_again()
-    ensures { (conf : Configuration) (text : List ℕ) (layer : Annotations) → IsOfProgram conf text layer → IsWellFormed conf (length text) layer → IsUtf8 (ann_of conf text layer) → length (ann_of conf text layer) ≤ 16777216 → IsReadAgain conf text layer }
+    ensures { (conf : Configuration) (text : List ℕ) (layer : Annotations) → IsOfProgram conf text layer → IsWellFormed conf (length text) layer → length (ann_of conf text layer) ≤ 16777216 → IsReadAgain conf text layer }
 {
     files_of_a_layer();
+    written_layers_are_utf8();
     written_layers_are_read_back();
 }
 

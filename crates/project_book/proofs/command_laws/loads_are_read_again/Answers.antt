@@ -4,7 +4,8 @@ use Rattle.project_book.proofs.command_laws.loads_are_read_again.Goals as goal
 
 pub returns : goal.returns
 returns c =
-    λ conf text layer program well utf8 few.
+    λ conf text layer program well few.
     let lines = ann_of conf text layer in
-    let file = c.written_layers_are_read_back.ensures conf text layer program well utf8 in
+    let utf8 = c.written_layers_are_utf8.ensures conf text layer program in
+    let file = c.written_layers_are_read_back.ensures conf text layer program well in
     read_again conf text layer utf8 few (c.files_of_a_layer.ensures.faultless conf text lines layer program.kept file) (c.files_of_a_layer.ensures.said conf text lines layer program.kept file)
