@@ -1,3 +1,4 @@
 pub mod Decisions
 pub mod Curated
+pub mod Placing
 pub mod DecisionFaults

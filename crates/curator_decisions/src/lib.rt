@@ -6,6 +6,7 @@
 
 mod decision_fault;
 mod decisions;
+mod numbering;
 mod verdict;
 mod worked_rows;
 
