@@ -1,2 +1,3 @@
 pub mod DecidedLemmas
 pub mod NumberLemmas
+pub mod RenameLemmas

@@ -1,5 +1,5 @@
 -- The curated layer by the places of contents in one table (private calls).
-use Rattle.std.specs.Prelude.{ℕ, ◌+◌, ◌==◌, Bool, if◌then◌else◌, List, [], ◌∷◌, ◌++◌, count_by, Option, Some, None, option_map, option_and_then, slice_get, unwrap_or}
+use Rattle.std.specs.Prelude.{◌≡◌, ⊤, ℕ, ◌+◌, ◌==◌, Bool, if◌then◌else◌, List, [], ◌∷◌, ◌++◌, count_by, Option, Some, None, option_map, option_and_then, slice_get, unwrap_or}
 use Rattle.std.specs.Ordering.{nat_cmp}
 use Rattle.std.specs.BTreeMap.{BTreeMap, get}
 use Rattle.mark_base.specs.declared.ann_id.AnnId.{AnnId}
@@ -11,6 +11,7 @@ use Rattle.layer_model.specs.Annotations.{Annotations}
 use Rattle.layer_model.specs.Classes.{letter_place, rank}
 use Rattle.layer_model.specs.Layers.{mark_at}
 use Rattle.content_keys.specs.declared.places.Placed.{Placed}
+use Rattle.content_keys.specs.declared.places.PlacedLayer.{PlacedLayer}
 use Rattle.unanimous_merge.specs.declared.entry.Entry.{Entry}
 use Rattle.unanimous_merge.specs.Rows.{each_has}
 use Rattle.curator_decisions.specs.declared.numbering.NumberedEntry.{NumberedEntry}
@@ -43,6 +44,13 @@ placed_id one = record { id = one.id; place = one.entry.place }
 abbrev pub called : (ℕ → Option AnnId) → List Placed → ℕ → Option (Option AnnId)
 called new [] place = None
 called new (one ∷ others) place = if rank one.id == place then Some (new one.place) else called new others place
+
+-- the names of each layer
+abbrev pub AreNames : (ℕ → Option AnnId) → List PlacedLayer → List (BTreeMap ℕ (Option AnnId)) → Type 0
+AreNames new [] [] = ⊤
+AreNames new [] (names ∷ all) = ⊥
+AreNames new (row ∷ rows) [] = ⊥
+AreNames new (row ∷ rows) (names ∷ all) = ((place : ℕ) → get nat_cmp names place ≡ called new row.marks.items place) × AreNames new rows all
 
 -- the new ID of an ID, where `names` has it by its rank
 abbrev pub new_of : BTreeMap ℕ (Option AnnId) → AnnId → Option AnnId

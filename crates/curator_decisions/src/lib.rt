@@ -4,9 +4,11 @@
 //! are in, numbered anew, and the unanimous classes whose members are all in.
 #![tactic(auto)]
 
+mod building;
 mod decision_fault;
 mod decisions;
 mod numbering;
+mod renaming;
 mod verdict;
 mod worked_rows;
 
