@@ -5,6 +5,7 @@ ghost use Rattle.layer_model.specs.Classes.{joined};
 ghost use Rattle.layer_model.specs.Layers.{is_of_kind, with_classes, with_mark};
 ghost use Rattle.unanimous_merge.specs.Merges.{IsMerged};
 ghost use Rattle.unanimous_merge.specs.Readings.{readings};
+ghost use Rattle.unanimous_merge.specs.Rows.{AreCoherent};
 ghost use Rattle.curator_decisions.specs.Curated.{curated};
 ghost use Rattle.curator_decisions.specs.Placing.{class_at, letter_of_entry, taken_at};
 
@@ -103,4 +104,19 @@ pub(crate) fn curated_in(
     let mut layer = taken_layer(alloc, snapshot, all.as_slice(), items.as_slice())?;
     join_classes(alloc, &mut layer, &all[0], merged.classes.as_slice())?;
     Ok(layer)
+}
+
+impl Decisions {
+    /// The curated layer: the items that are in, numbered anew, each letter from 1 in the order of items, `M` as
+    /// `A`, and the unanimous classes whose members are all in. The snapshot's layers are well-formed. Cost: the
+    /// annotations of the snapshot, each as a look-up in an ordered map, and the items, each as a look-up among
+    /// the decisions.
+    pub fn curated(&self, snapshot: &Snapshot) -> Result<Layer, Memory>
+        requires { AreCoherent snapshot.now }
+        ensures { IfOk result (λ layer. layer ≡ curated (readings snapshot.now) self.now) }
+    {
+        let alloc = self.allocator();
+        let merged = Merged::of(alloc, snapshot)?;
+        curated_in(alloc, snapshot, &merged, self)
+    }
 }

@@ -105,6 +105,11 @@ impl Decisions {
         Ok(Decisions { decided })
     }
 
+    /// The allocator of the list.
+    pub(crate) fn allocator(&self) -> Global {
+        *self.decided.allocator()
+    }
+
     /// Sets the verdict on an item, in place of one that stood. Want of memory leaves the decisions as they
     /// were; 4,294,967,295 decisions take no more. Cost: the decisions.
     pub(crate) fn set(&mut self, item: ItemId, verdict: Verdict) -> Result<(), Memory>
