@@ -10,9 +10,13 @@ use Rattle.layer_model.specs.declared.class.Class.{Class}
 use Rattle.layer_model.specs.Classes.{apart, comes_before, insert_class, joined, joined_class, shares}
 use Rattle.curator_decisions.specs.Curated.{all_new}
 
-append_nil : {X : Type 0} (xs : List X) → xs ++ [] ≡ xs
+pub append_nil : {X : Type 0} (xs : List X) → xs ++ [] ≡ xs
 append_nil [] = refl
 append_nil (x ∷ xs) = ap (λ ys. x ∷ ys) (append_nil xs)
+
+-- one more, filtered
+pub filter_map_more : {X Y : Type 0} (f : X → Option Y) (xs : List X) (i : ℕ) (x : X) → i < length xs → x ≡ get_or xs i x → (o : Option Y) → o ≡ f x → filter_map f (take (i + 1) xs) ≡ filter_map f (take i xs) ++ cons_option o []
+filter_map_more f xs i x h at o is = ap (filter_map f) (take_more xs i x h ∙ ap (λ q. take i xs ++ q ∷ []) (sym at)) ∙ filter_map-append f (take i xs) (x ∷ []) ∙ ap (λ p. filter_map f (take i xs) ++ cons_option p []) (sym is)
 
 module _ {X Y B : Type 0} (f : X → Option Y) (g : B → Y → B) (start : B) (xs : List X) (i : ℕ) (x : X) (h : i < length xs) (at : x ≡ get_or xs i x) where
   more : filter_map f (take (i + 1) xs) ≡ filter_map f (take i xs) ++ cons_option (f x) []

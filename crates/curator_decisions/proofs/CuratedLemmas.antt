@@ -85,7 +85,7 @@ places_fit n before (e ∷ es) all =
 
 -- ---- contents are not 0
 
-content_none : {I : Type 0} (node : I → Option (Node I)) (f : ℕ) (x : I) → node x ≡ None → content node (suc f) x ≡ 0
+pub content_none : {I : Type 0} (node : I → Option (Node I)) (f : ℕ) (x : I) → node x ≡ None → content node (suc f) x ≡ 0
 unfolding content
 content_none node f x e = ap (content_at (content node f)) e
 
@@ -133,6 +133,9 @@ none_new before (x ∷ xs) all = elim (eqb_tells x.content 0) [
   | inl p ↦ absurd (all_head IsMade x xs all p.1)
   | inr p ↦ ap (λ b. cond b (Some (id_at (letter_of_item x) (count_of_letter (letter_of_item x) before + 1))) (new_id (numbered_behind (before ++ x ∷ []) xs) 0)) p.0 ∙ none_new (before ++ x ∷ []) xs (all_tail IsMade x xs all)
 ]
+
+pub made_leaders : (rows : List (List ℕ × Annotations)) → All (λ (r : List ℕ × Annotations). IsLayer r.1) rows → All IsMade (leaders (readings rows))
+made_leaders rows all = made_firsts (held_from 0 (map contents (readings rows))) (made_held 0 rows all)
 
 -- no item has the content 0
 pub no_zero : (rows : List (List ℕ × Annotations)) → All (λ (r : List ℕ × Annotations). IsLayer r.1) rows → (decided : Decided) → new_id (numbered (readings rows) decided) 0 ≡ None

@@ -5,3 +5,5 @@ pub mod PutLemmas
 pub mod BuildLemmas
 pub mod TakenLemmas
 pub mod CuratedLemmas
+pub mod NamingLemmas
+pub mod DecideLemmas

@@ -40,13 +40,13 @@ numbered_entries before (entry ∷ others) =
 abbrev pub placed_id : NumberedEntry → Placed
 placed_id one = record { id = one.id; place = one.entry.place }
 
--- what the annotation of a rank is called, where `new` tells what the items of places are called
-abbrev pub called : (ℕ → Option AnnId) → List Placed → ℕ → Option (Option AnnId)
+-- what the annotation of a rank is called, where `new` tells what the contents of places are called
+abbrev pub called : {T : Type 0} → (ℕ → T) → List Placed → ℕ → Option T
 called new [] place = None
 called new (one ∷ others) place = if rank one.id == place then Some (new one.place) else called new others place
 
 -- the names of each layer
-abbrev pub AreNames : (ℕ → Option AnnId) → List PlacedLayer → List (BTreeMap ℕ (Option AnnId)) → Type 0
+abbrev pub AreNames : {T : Type 0} → (ℕ → T) → List PlacedLayer → List (BTreeMap ℕ T) → Type 0
 AreNames new [] [] = ⊤
 AreNames new [] (names ∷ all) = ⊥
 AreNames new (row ∷ rows) [] = ⊥

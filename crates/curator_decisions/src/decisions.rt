@@ -105,6 +105,18 @@ impl Decisions {
         Ok(Decisions { decided })
     }
 
+    /// The decisions of a list in ascending order of items, of which there are at most 4,294,967,295.
+    pub(crate) fn of_pairs(alloc: Global, pairs: &[(ItemId, Verdict)]) -> Result<Decisions, Memory>
+        requires { Ascend pairs.now }
+        ensures { IfOk result (λ decisions. decisions ≡ pairs.now) }
+    {
+        if pairs.len() > 4_294_967_295 {
+            return Err(Memory);
+        }
+        let decided = Vec::from_slice(alloc, pairs)?;
+        Ok(Decisions { decided })
+    }
+
     /// The allocator of the list.
     pub(crate) fn allocator(&self) -> Global {
         *self.decided.allocator()

@@ -5,8 +5,10 @@
 #![tactic(auto)]
 
 mod building;
+mod deciding;
 mod decision_fault;
 mod decisions;
+mod naming;
 mod numbering;
 mod renaming;
 mod verdict;
