@@ -1,18 +1,16 @@
 -- The curated layer by places is that by contents.
-use Rattle.std.proofs.Common.{◌≡◌, ℕ, zero, suc, ◌+◌, ◌<◌, ◌≤◌, ◌⊎◌, ◌==◌, Bool, true, false, cond, eqb, List, [], ◌∷◌, ◌++◌, map, length, get_or, refl, sym, ap, ◌∙◌, subst, arith, inl, inr, All, Option, Some, None, IsSome, option_map, option_and_then, unwrap_or}
+use Rattle.std.proofs.Common.{◌≡◌, ℕ, zero, suc, ◌+◌, ◌<◌, ◌≤◌, ◌⊎◌, ◌==◌, Bool, cond, List, [], ◌∷◌, ◌++◌, map, length, get_or, refl, sym, ap, ◌∙◌, arith, inl, inr, All, Option, Some, None, IsSome, option_map, option_and_then, unwrap_or}
 use Rattle.std.proofs.lemmas.Bool.Decides.{eqb_tells}
 use Rattle.std.proofs.lemmas.List.{map-append}
-use Rattle.std.proofs.lemmas.Option.{same_Some}
-use Rattle.std.specs.List.{AllByRecursion, cons_option, count_by, filter, filter_map, fold, slice_get}
-use Rattle.std.specs.Ordering.{nat_cmp}
-use Rattle.std.specs.BTreeMap.{BTreeMap, get}
+use Rattle.std.specs.List.{cons_option, filter, filter_map, fold, slice_get}
+use Rattle.std.specs.BTreeMap.{BTreeMap}
 use Rattle.mark_base.specs.declared.ann_id.AnnId.{AnnId}
 use Rattle.mark_base.specs.declared.ann_id.Kind.{Kind}
 use Rattle.mark_base.specs.ReadIds.{id_at}
 use Rattle.layer_model.specs.declared.class.Class.{Class}
 use Rattle.layer_model.specs.declared.mark.Mark.{Mark}
-use Rattle.layer_model.specs.Annotations.{Annotations, no_marks}
-use Rattle.layer_model.specs.Classes.{AreClasses, IsClass, letter_place, rank}
+use Rattle.layer_model.specs.Annotations.{Annotations}
+use Rattle.layer_model.specs.Classes.{AreClasses, letter_place, rank}
 use Rattle.layer_model.specs.Layers.{IsLayer, mark_at, with_mark, with_marked}
 use Rattle.mark_base.specs.declared.ann_id.Kind.TheVariants as letter
 use Rattle.layer_model.specs.declared.mark.Mark.TheVariants as marked
@@ -31,10 +29,10 @@ use Rattle.unanimous_merge.specs.declared.merged.Merged.{Merged}
 use Rattle.unanimous_merge.specs.Items.{Held, firsts, held_by, held_from, leaders}
 use Rattle.unanimous_merge.specs.Merges.{IsMerged}
 use Rattle.unanimous_merge.specs.Readings.{Reading, content_under, contents, reading_of, readings}
-use Rattle.unanimous_merge.specs.Rows.{AreRows, held_at}
+use Rattle.unanimous_merge.specs.Rows.{held_at}
 use Rattle.unanimous_merge.specs.Unanimous.{unanimous_classes}
 use Rattle.unanimous_merge.proofs.ItemLemmas.{AreDistinct, test_is}
-use Rattle.unanimous_merge.proofs.ListLemmas.{all_append, all_cons, all_filter, all_head, all_map, all_more, all_none, all_tail, filter_map_is, filter_same, map_map}
+use Rattle.unanimous_merge.proofs.ListLemmas.{all_append, all_cons, all_filter, all_head, all_map, all_more, all_none, all_tail, filter_map_is, filter_same}
 use Rattle.curator_decisions.proofs.BuildLemmas.{filter_short}
 use Rattle.curator_decisions.specs.declared.numbering.NumberedEntry.{NumberedEntry}
 use Rattle.curator_decisions.specs.Curated.{Numbered, all_new, class_taken, classes_taken, count_of_letter, letter_of_item, new_id, numbered, numbered_behind, rename_in, renamed, taken}

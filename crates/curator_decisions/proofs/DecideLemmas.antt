@@ -19,7 +19,7 @@ use Rattle.curator_decisions.specs.DecisionFaults.{changed_fault, decide_fault, 
 use Rattle.curator_decisions.specs.Decisions.{Decided, is_in, verdict_on, with_verdict, without_verdict}
 use Rattle.curator_decisions.specs.Naming.{entry_as, is_needed_at, lacked_at, named_at}
 use Rattle.curator_decisions.specs.Placing.{AreNames, is_in_at}
-use Rattle.curator_decisions.proofs.NamingLemmas.{IsGood, all_held, flags, found_good, held, held_is, in_at, missing_is}
+use Rattle.curator_decisions.proofs.NamingLemmas.{all_held, flags, found_good, held, held_is, in_at, missing_is}
 
 pub told : (first : Option DecisionFault) (fault : DecisionFault) → first ≡ Some fault → IsFirstFault first fault
 told first no.NoItem e = e

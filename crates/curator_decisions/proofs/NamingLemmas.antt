@@ -1,9 +1,9 @@
 -- What items name, by places and by contents.
-use Rattle.std.proofs.Common.{◌≡◌, ℕ, zero, suc, ◌<◌, ◌⊎◌, Bool, true, false, ◌||◌, ◌&&◌, not, cond, eqb, List, [], ◌∷◌, ◌++◌, map, length, get_or, refl, sym, ap, ◌∙◌, subst, arith, inl, inr, All, Option, Some, None, MatchOption, is_some, option_and_then, option_map}
+use Rattle.std.proofs.Common.{◌≡◌, ℕ, zero, suc, ◌<◌, ◌⊎◌, Bool, true, false, ◌||◌, ◌&&◌, not, cond, eqb, List, [], ◌∷◌, ◌++◌, map, length, get_or, refl, sym, ap, ◌∙◌, subst, inl, inr, All, Option, Some, None, MatchOption, is_some, option_and_then, option_map}
 use Rattle.std.proofs.lemmas.Bool.Decides.{eqb_tells}
 use Rattle.std.proofs.lemmas.List.{map-append}
 use Rattle.std.proofs.lemmas.Option.{same_Some}
-use Rattle.std.specs.List.{cons_option, filter_map, find, list_all, list_any, slice_get}
+use Rattle.std.specs.List.{cons_option, find, list_all, list_any, slice_get}
 use Rattle.std.specs.Option.{option_map_or}
 use Rattle.std.specs.Ordering.{nat_cmp}
 use Rattle.std.specs.BTreeMap.{BTreeMap, get}
@@ -26,9 +26,9 @@ use Rattle.content_keys.proofs.IdLemmas.{in_ids, same_rank}
 use Rattle.unanimous_merge.specs.declared.entry.Entry.{Entry}
 use Rattle.unanimous_merge.specs.declared.item.ItemId.{ItemId}
 use Rattle.unanimous_merge.specs.declared.merged.Merged.{Merged}
-use Rattle.unanimous_merge.specs.Items.{Held, held_from, leaders, name_of}
+use Rattle.unanimous_merge.specs.Items.{Held, leaders, name_of}
 use Rattle.unanimous_merge.specs.Merges.{IsMerged}
-use Rattle.unanimous_merge.specs.Readings.{contents, reading_of, readings}
+use Rattle.unanimous_merge.specs.Readings.{reading_of, readings}
 use Rattle.unanimous_merge.specs.Rows.{held_at}
 use Rattle.unanimous_merge.proofs.ItemLemmas.{AreDistinct, test_is}
 use Rattle.unanimous_merge.proofs.ListLemmas.{all_cons, all_head, all_more, all_none, all_tail, any_map, any_same, map_map}

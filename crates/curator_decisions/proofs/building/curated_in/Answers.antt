@@ -1,13 +1,11 @@
 use Rattle.std.proofs.Common.{◌≡◌, ◌<◌, ◌≤◌, ℕ, None, Option, List, [], All, length, get_or, map, sym, ap, ◌∙◌, subst, refl, arith}
 use Rattle.std.specs.List.{filter_map, fold}
-use Rattle.std.specs.BTreeMap.{BTreeMap}
 use Rattle.mark_base.specs.declared.ann_id.AnnId.{AnnId}
 use Rattle.layer_model.specs.declared.class.Class.{Class}
 use Rattle.layer_model.specs.declared.mark.Mark.{Mark}
 use Rattle.layer_model.specs.Annotations.{Annotations, no_marks}
 use Rattle.layer_model.specs.Classes.{joined}
 use Rattle.layer_model.specs.Layers.{with_classes, with_mark}
-use Rattle.content_keys.specs.declared.places.Placed.{Placed}
 use Rattle.content_keys.specs.declared.places.PlacedLayer.{PlacedLayer}
 use Rattle.content_keys.specs.Founds.{first_at}
 use Rattle.unanimous_merge.specs.Readings.{readings}

@@ -1,4 +1,4 @@
-use Rattle.std.proofs.Common.{◌≡◌, ℕ, ◌<◌, ◌≤◌, ◌+◌, List, [], length, take, Some, None, Option, Vec, Global, ap, ◌∙◌, sym, subst, refl, arith, option_map}
+use Rattle.std.proofs.Common.{◌≡◌, ◌<◌, ◌≤◌, ◌+◌, List, [], length, take, Some, Option, Vec, Global, ap, ◌∙◌, sym, subst, refl, arith, option_map}
 use Rattle.std.specs.List.{filter_map, fold}
 use Rattle.mark_base.specs.declared.ann_id.AnnId.{AnnId}
 use Rattle.layer_model.specs.declared.class.Class.{Class}

@@ -1,4 +1,4 @@
-use Rattle.std.proofs.Common.{◌≡◌, ℕ, true, Some, None, ap, ◌∙◌, sym, subst, Option, option_map}
+use Rattle.std.proofs.Common.{◌≡◌, true, ap, ◌∙◌, sym, subst, Option, option_map}
 use Rattle.std.specs.Option.{IfSome}
 use Rattle.mark_base.specs.declared.ann_id.AnnId.{AnnId}
 use Rattle.mark_base.specs.declared.ann_id.Kind.{Kind}

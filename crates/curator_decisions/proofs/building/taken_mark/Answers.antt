@@ -1,4 +1,4 @@
-use Rattle.std.proofs.Common.{◌≡◌, ◌<◌, ℕ, Some, length, ap, ◌∙◌, sym, subst, arith, option_map}
+use Rattle.std.proofs.Common.{◌<◌, Some, length, ap, ◌∙◌, sym, option_map}
 use Rattle.std.specs.List.{slice_get}
 use borrow.Author.Tests.{ltb-true}
 use Rattle.curator_decisions.proofs.TakenLemmas.{got, if_mapped, taken_is}

@@ -1,4 +1,4 @@
-use Rattle.std.proofs.Common.{◌≡◌, ℕ, Bool, true, false, cond, List, Option, map, sym, ap, ◌∙◌, subst, option_map}
+use Rattle.std.proofs.Common.{ℕ, Bool, cond, List, map, sym, ap, ◌∙◌, subst, option_map}
 use Rattle.std.specs.BTreeMap.{BTreeMap}
 use Rattle.content_keys.specs.declared.places.PlacedLayer.{PlacedLayer}
 use Rattle.unanimous_merge.specs.declared.entry.Entry.{Entry}

@@ -1,7 +1,4 @@
-use Rattle.std.proofs.Common.{◌≡◌, ◌<◌, ◌≤◌, ℕ, length, get_or, ap, ◌∙◌, sym, subst, arith, below_more}
-use Rattle.unanimous_merge.specs.declared.item.ItemId.{ItemId}
-use Rattle.unanimous_merge.proofs.ListLemmas.{any_default}
-use Rattle.curator_decisions.specs.declared.verdict.Verdict.{Verdict}
+use Rattle.std.proofs.Common.{◌≡◌, ◌<◌, ◌≤◌, length, get_or, ◌∙◌, sym, arith, below_more}
 use Rattle.curator_decisions.specs.Decisions.{item_rank}
 use Rattle.curator_decisions.proofs.DecidedLemmas.{insert_at, rank_there, set_at}
 use Rattle.curator_decisions.proofs.decisions.place_of.Goals as goal

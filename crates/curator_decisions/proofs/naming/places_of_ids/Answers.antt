@@ -1,4 +1,4 @@
-use Rattle.std.proofs.Common.{◌≡◌, ℕ, Option, Some, None, sym, ap, ◌∙◌, ◌++◌, [], ◌∷◌, take}
+use Rattle.std.proofs.Common.{ℕ, Option, Some, None, sym, ap, ◌∙◌, ◌++◌, [], ◌∷◌, take}
 use Rattle.std.specs.List.{filter_map}
 use Rattle.std.specs.Ordering.{nat_cmp}
 use Rattle.std.specs.BTreeMap.{get}

@@ -1,5 +1,4 @@
-use Rattle.std.proofs.Common.{◌≡◌, ◌≤◌, ◌<◌, ◌+◌, ℕ, [], ◌∷◌, ◌++◌, get_or, set, take, length, length-set, sym, ap, ◌∙◌, subst, arith}
-use Rattle.mark_base.specs.declared.ann_id.Kind.{Kind}
+use Rattle.std.proofs.Common.{◌≡◌, ◌≤◌, ◌+◌, get_or, take, length-set, ap, ◌∙◌, arith}
 use Rattle.mark_base.specs.ReadIds.{id_at}
 use Rattle.layer_model.specs.Classes.{letter_place}
 use Rattle.curator_decisions.specs.declared.numbering.NumberedEntry.{NumberedEntry}

@@ -1,4 +1,4 @@
-use Rattle.std.proofs.Common.{◌≡◌, ◌<◌, ℕ, None, get_or, arith, sym}
+use Rattle.std.proofs.Common.{None, get_or, arith}
 use Rattle.std.specs.Ordering.{nat_cmp}
 use Rattle.std.specs.BTreeMap.{get}
 use Rattle.curator_decisions.proofs.RenameLemmas.{called_more}

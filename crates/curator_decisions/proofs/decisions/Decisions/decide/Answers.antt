@@ -1,19 +1,11 @@
-use Rattle.std.proofs.Common.{◌≡◌, ◌<◌, ℕ, Bool, true, false, get_or, length, map, is_some, List, Option, Some, None, sym, ap, ◌∙◌, subst, option_map}
-use Rattle.std.specs.List.{list_all}
+use Rattle.std.proofs.Common.{◌≡◌, length, sym, ap, ◌∙◌}
 use Rattle.std.specs.Option.{option_or}
-use Rattle.std.specs.BTreeMap.{BTreeMap}
-use Rattle.content_keys.specs.declared.places.PlacedLayer.{PlacedLayer}
-use Rattle.layer_core.specs.WellFormed.{Obeys}
-use Rattle.unanimous_merge.specs.declared.entry.Entry.{Entry}
-use Rattle.unanimous_merge.specs.Items.{Held}
 use Rattle.unanimous_merge.specs.Readings.{readings}
 use Rattle.unanimous_merge.specs.Rows.{held_at}
-use Rattle.curator_decisions.specs.Curated.{curated}
-use Rattle.curator_decisions.specs.DecisionFaults.{changed_fault, decide_fault, decision_fault, layer_fault, needed, undecide_fault, undecided_fault, verdict_fault}
-use Rattle.curator_decisions.specs.Decisions.{Decided, verdict_on, with_verdict, without_verdict}
-use Rattle.curator_decisions.specs.Naming.{entry_as, is_needed_at, lacked_at, named_at}
-use Rattle.curator_decisions.specs.Placing.{AreNames}
-use Rattle.curator_decisions.proofs.DecideLemmas.{decide_none, decide_some, of_none, of_some, told, undecide_none, undecide_some}
+use Rattle.curator_decisions.specs.DecisionFaults.{changed_fault, decide_fault}
+use Rattle.curator_decisions.specs.Decisions.{Decided, with_verdict}
+use Rattle.curator_decisions.specs.Naming.{entry_as}
+use Rattle.curator_decisions.proofs.DecideLemmas.{decide_none, decide_some, told}
 use Rattle.curator_decisions.proofs.NamingLemmas.{found_good}
 use Rattle.curator_decisions.proofs.decisions.Decisions.decide.Goals as goal
 

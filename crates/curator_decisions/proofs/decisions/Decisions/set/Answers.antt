@@ -1,4 +1,4 @@
-use Rattle.std.proofs.Common.{◌≡◌, ◌≤◌, ◌<◌, ◌+◌, length, length-set, set, sym, ap, ◌∙◌, subst, arith}
+use Rattle.std.proofs.Common.{◌≡◌, ◌≤◌, length, length-set, set, sym, ◌∙◌, subst, arith}
 use Rattle.std.specs.List.{insert}
 use Rattle.curator_decisions.specs.Decisions.{Ascend, Decided, with_verdict}
 use Rattle.curator_decisions.proofs.DecidedLemmas.{ascend_with}

@@ -1,4 +1,4 @@
-use Rattle.std.proofs.Common.{◌≡◌, ◌≤◌, ◌==◌, length, not, sym, ap, ◌∙◌, subst, rules, arith, ℕ}
+use Rattle.std.proofs.Common.{◌≡◌, ◌==◌, not, sym, ap, ◌∙◌, subst, rules, arith, ℕ}
 use Rattle.std.specs.List.{filter}
 use Rattle.std.proofs.lemmas.Fn.{filter_same}
 use Rattle.curator_decisions.specs.Decisions.{Ascend, Decided, item_rank, without_verdict}
