@@ -1,3 +1,6 @@
 pub mod Decisions
 pub mod Curated
+pub mod Placing
+pub mod Naming
+pub mod Deciding
 pub mod DecisionFaults

@@ -1,6 +1,7 @@
 //! A curator's decisions.
-ghost use Rattle.std.specs.Prelude.{◌≡◌, ◌*◌, ◌+◌, [], length, slice_get, IfOk};
-ghost use Rattle.curator_decisions.specs.Decisions.{Ascend, item_rank, verdict_on};
+ghost use Rattle.std.specs.Prelude.{◌≡◌, ◌≤◌, ◌<◌, ◌*◌, ◌+◌, [], insert, length, slice_get, slice_set, IfErr, IfOk, OnErr, OnOk};
+ghost use Rattle.curator_decisions.specs.declared.verdict.Verdict.{Verdict};
+ghost use Rattle.curator_decisions.specs.Decisions.{Ascend, item_rank, verdict_on, with_verdict, without_verdict};
 
 use crate::verdict::Verdict;
 use layer_model::rank;
@@ -10,10 +11,30 @@ use std::marker::Model;
 use unanimous_merge::ItemId;
 
 /// The place of an item among all items.
-fn item_rank(item: ItemId) -> u64
+pub(crate) fn item_rank(item: ItemId) -> u64
     ensures { result ≡ item_rank item }
 {
     u64::from(item.holder) * 7_000_000_000 + rank(item.id)
+}
+
+/// Where a verdict on an item goes: in place of the one at the index of `Ok`, or before the one at that of `Err`.
+fn place_of(decided: &[(ItemId, Verdict)], item: ItemId) -> Result<usize, usize>
+    ensures here { IfOk result (λ i. i < length decided.now) }
+    ensures set { IfOk result (λ i. (verdict : Verdict) → with_verdict decided.now item verdict ≡ slice_set decided.now i (item, verdict)) }
+    ensures within { IfErr result (λ i. i ≤ length decided.now) }
+    ensures inserted { IfErr result (λ i. (verdict : Verdict) → with_verdict decided.now item verdict ≡ insert decided.now i (item, verdict)) }
+{
+    let sought = item_rank(item);
+    for (i, one) in decided.iter().enumerate() {
+        let rank = item_rank(one.0);
+        if rank == sought {
+            return Ok(i);
+        }
+        if sought < rank {
+            return Err(i);
+        }
+    }
+    Err(decided.len())
 }
 
 /// The verdicts of a curator on the items of a snapshot, at most one on each.
@@ -82,6 +103,52 @@ impl Decisions {
         let alloc = *self.decided.allocator();
         let decided = Vec::from_slice(alloc, self.decided.as_slice())?;
         Ok(Decisions { decided })
+    }
+
+    /// The decisions of a list in ascending order of items, of which there are at most 4,294,967,295.
+    pub(crate) fn of_pairs(alloc: Global, pairs: &[(ItemId, Verdict)]) -> Result<Decisions, Memory>
+        requires { Ascend pairs.now }
+        ensures { IfOk result (λ decisions. decisions ≡ pairs.now) }
+    {
+        if pairs.len() > 4_294_967_295 {
+            return Err(Memory);
+        }
+        let decided = Vec::from_slice(alloc, pairs)?;
+        Ok(Decisions { decided })
+    }
+
+    /// The allocator of the list.
+    pub(crate) fn allocator(&self) -> Global {
+        *self.decided.allocator()
+    }
+
+    /// Sets the verdict on an item, in place of one that stood. Want of memory leaves the decisions as they
+    /// were; 4,294,967,295 decisions take no more. Cost: the decisions.
+    pub(crate) fn set(&mut self, item: ItemId, verdict: Verdict) -> Result<(), Memory>
+        ensures ok { OnOk result (self.new ≡ with_verdict self.old item verdict) }
+        ensures err { OnErr result (self.new ≡ self.old) }
+    {
+        match place_of(self.decided.as_slice(), item) {
+            Ok(i) => {
+                self.decided[i] = (item, verdict);
+                Ok(())
+            }
+            Err(i) => {
+                if self.decided.len() >= 4_294_967_295 {
+                    return Err(Memory);
+                }
+                self.decided.insert(i, (item, verdict))?;
+                Ok(())
+            }
+        }
+    }
+
+    /// Takes the verdict on an item away. Cost: the decisions.
+    pub(crate) fn unset(&mut self, item: ItemId)
+        ensures { self.new ≡ without_verdict self.old item }
+    {
+        let sought = item_rank(item);
+        self.decided.retain(|one| item_rank(one.0) != sought);
     }
 
     /// Tells a proof that the items ascend, each once. It does nothing.

@@ -4,8 +4,13 @@
 //! are in, numbered anew, and the unanimous classes whose members are all in.
 #![tactic(auto)]
 
+mod building;
+mod deciding;
 mod decision_fault;
 mod decisions;
+mod naming;
+mod numbering;
+mod renaming;
 mod verdict;
 mod worked_rows;
 

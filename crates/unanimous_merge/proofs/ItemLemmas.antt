@@ -1,5 +1,5 @@
 -- Places of one table stand for contents: what is found by places is what the definitions say of contents.
-use Rattle.std.proofs.Common.{◌≡◌, ℕ, suc, ◌<◌, Bool, not, eqb, ◌==◌, List, [], ◌∷◌, ◌++◌, map, length, get_or, refl, sym, ap, ◌∙◌, All}
+use Rattle.std.proofs.Common.{◌≡◌, ℕ, suc, ◌<◌, Bool, not, eqb, ◌==◌, List, [], ◌∷◌, ◌++◌, map, length, get_or, refl, sym, ap, ◌∙◌, subst, All}
 use Rattle.std.proofs.lemmas.List.{map-append}
 use Rattle.std.specs.List.{filter, list_any}
 use Rattle.mark_base.specs.declared.ann_id.AnnId.{AnnId}
@@ -9,7 +9,7 @@ use Rattle.content_keys.specs.declared.places.PlacedLayer.{PlacedLayer}
 use Rattle.content_keys.specs.Places.{contents_at}
 use Rattle.unanimous_merge.specs.declared.entry.Entry.{Entry}
 use Rattle.unanimous_merge.specs.Readings.{contents, reading_of, readings}
-use Rattle.unanimous_merge.specs.Items.{Held, firsts, held_by, held_from, item_of, items, number_of_bits, stands}
+use Rattle.unanimous_merge.specs.Items.{Held, firsts, held_by, held_from, item_of, items, leaders, number_of_bits, stands}
 use Rattle.unanimous_merge.specs.Rows.{AreRows, entries_by, entries_from, firsts_at, having, held_at, item_at}
 use Rattle.unanimous_merge.proofs.EntryLemmas.{marks_of}
 use Rattle.unanimous_merge.proofs.ListLemmas.{all_append, all_cons, all_filter, all_head, all_map, all_more, all_none, all_tail, any_map, any_same, filter_map_is, filter_same, map_map, map_same, same_test}
@@ -83,6 +83,16 @@ module _ (table : List ℕ) (distinct : AreDistinct table) where
 
     pub contents_same : map contents (readings snapshot) ≡ map contents_in rows
     contents_same = map_map contents (λ (r : List ℕ × Annotations). reading_of r.1) snapshot ∙ sym are.marks
+
+    -- the first annotation of each content, by place
+    pub firsts_lead : (entries : List Entry) → entries ≡ entries_from 0 (map marks_of rows) → (found : List Entry) → found ≡ firsts_at entries → map (held_at table) found ≡ leaders (readings snapshot)
+    firsts_lead entries is found firsts_is =
+        let all : All IsEntry (entries_from 0 (map marks_of rows)) = entries_within 0 rows all_placed in
+        let es : List Entry = entries_from 0 (map marks_of rows) in
+        ap (map (held_at table)) (firsts_is ∙ ap firsts_at is) ∙ sym (ap firsts (ap (held_from 0) contents_same ∙ held_is 0 rows) ∙ firsts_are es all)
+
+    pub firsts_within : (entries : List Entry) → entries ≡ entries_from 0 (map marks_of rows) → (found : List Entry) → found ≡ firsts_at entries → All IsEntry found
+    firsts_within entries is found firsts_is = subst (All IsEntry) (sym (firsts_is ∙ ap firsts_at is)) (within_firsts (entries_from 0 (map marks_of rows)) (entries_within 0 rows all_placed))
 
     module _ (standing : List (List Bool)) (has : (place : ℕ) → having place standing ≡ map (has_mark place) rows) where
       item_is : (e : Entry) → IsEntry e → item_of (readings snapshot) (held_at table e) ≡ item_at standing e

@@ -74,3 +74,14 @@ row_there snapshot i h e = by (slice_get snapshot i) refl e
     by : (o : Option (List ℕ × Annotations)) → slice_get snapshot i ≡ o → ◌≡◌ {A = Option Annotations} None (option_map (λ (r : List ℕ × Annotations). r.1) o) → ⊥
     by None f g = found_within snapshot i h f
     by (Some r) f g = cc
+
+-- what holds of one layer more
+pub layers_more : (P : Annotations → Type 0) (snapshot : List (List ℕ × Annotations)) (i : ℕ) (layer : Annotations) → Some layer ≡ option_map (λ (r : List ℕ × Annotations). r.1) (slice_get snapshot i) → P layer → All (λ (r : List ℕ × Annotations). P r.1) (take i snapshot)
+    → All (λ (r : List ℕ × Annotations). P r.1) (take (i + 1) snapshot)
+layers_more P snapshot i layer e here so_far = by (slice_get snapshot i) refl e
+  where
+    by : (o : Option (List ℕ × Annotations)) → slice_get snapshot i ≡ o → Some layer ≡ option_map (λ (r : List ℕ × Annotations). r.1) o → All (λ (r : List ℕ × Annotations). P r.1) (take (i + 1) snapshot)
+    by None f g = cc
+    by (Some r) f g =
+        let Q : List (List ℕ × Annotations) → Type 0 = All (λ (x : List ℕ × Annotations). P x.1) in
+        subst Q (sym (take_found snapshot i r f)) (all_append (λ (x : List ℕ × Annotations). P x.1) (take i snapshot) (r ∷ []) so_far (all_cons (λ (x : List ℕ × Annotations). P x.1) r [] (subst P (same_Some _ _ g) here) (all_none (λ (x : List ℕ × Annotations). P x.1))))

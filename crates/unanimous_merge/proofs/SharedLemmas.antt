@@ -117,7 +117,7 @@ module _ (table : List ℕ) (distinct : AreDistinct table) (snapshot : List (Lis
   class_is q h row all = any_map (λ one. eqb one (v q)) v row.classes.items ∙ any_same (λ p. p < length table) (λ p. eqb (v p) (v q)) (λ p. eqb p q) (λ p b. test_is table distinct p q b h) row.classes.items all
 
   module _ (standing : List (List Bool)) (has : (place : ℕ) → having place standing ≡ map (has_mark place) rows) where
-    marks_test : (q : ℕ) → q < length table → in_each (readings snapshot) (v q) ≡ each_has standing q
+    pub marks_test : (q : ℕ) → q < length table → in_each (readings snapshot) (v q) ≡ each_has standing q
     marks_test q h =
         each_is contents (λ row. contents_at table row.marks.items) (readings snapshot) rows (contents_same table distinct snapshot rows are) (stands (v q)) (has_mark q) (λ row. All (λ p. p.place < length table) row.marks.items)
         (λ row b. stands_is table distinct q h row.marks.items b) (all_placed table distinct snapshot rows are)

@@ -3,3 +3,4 @@ pub mod Items
 pub mod Unanimous
 pub mod Rows
 pub mod WorkedSnapshots
+pub mod Merges

@@ -10,7 +10,7 @@ use std::alloc::Global;
 
 /// An annotation of a holder, and the place of its content.
 #[derive(Clone, Copy)]
-pub(crate) struct Entry {
+pub struct Entry {
     pub item: ItemId,
     pub place: u32,
 }

@@ -10,14 +10,17 @@
 mod entry;
 mod item;
 mod item_list;
+mod merged;
 mod picks;
 mod rows;
 mod shared;
 mod standing;
 mod worked_rows;
 
+pub use crate::entry::Entry;
 pub use crate::item::{Item, ItemId};
 pub use crate::item_list::items;
+pub use crate::merged::Merged;
 pub use crate::picks::Picks;
 pub use crate::shared::unanimous;
 pub use crate::worked_rows::examples_of_items;

@@ -1,5 +1,6 @@
 //! The layers of a snapshot, placed in one table of contents.
-ghost use Rattle.std.specs.Prelude.{IfOk};
+ghost use Rattle.std.specs.Prelude.{All, IfOk};
+ghost use Rattle.layer_model.specs.Layers.{IsLayer};
 ghost use Rattle.unanimous_merge.specs.Rows.{AreCoherent, AreRows};
 
 use content_keys::{ContentTable, PlacedLayer};
@@ -24,4 +25,15 @@ pub(crate) fn placed_rows(
         }
     }
     Ok(rows)
+}
+
+/// Tells a proof what each layer of a snapshot keeps. It does nothing.
+pub(crate) fn layers_keep(snapshot: &Snapshot)
+    ensures { All (λ row. IsLayer row.1) snapshot.now }
+{
+    for i in 0..snapshot.count() {
+        if let Some(layer) = snapshot.layer(i) {
+            layer.keeps();
+        }
+    }
 }

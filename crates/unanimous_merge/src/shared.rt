@@ -14,7 +14,7 @@ use mark_base::{AnnId, Memory};
 use std::alloc::Global;
 
 /// For each layer the places of its classes.
-fn standing_classes(
+pub(crate) fn standing_classes(
     alloc: Global,
     rows: &[PlacedLayer],
     count: usize,
@@ -44,7 +44,7 @@ fn shared_ids(alloc: Global, marks: &[Placed], standing: &[Vec<bool>]) -> Result
 }
 
 /// The classes that each layer has.
-fn shared_classes(
+pub(crate) fn shared_classes(
     alloc: Global,
     classes: &[Class],
     places: &[u32],

@@ -1,0 +1,250 @@
+//! Decisions that are accepted and refused.
+ghost use Rattle.std.specs.Prelude.{◌≡◌, ◌<◌, ◌≤◌, ℕ, [], length, map, None, option_map, is_some, slice_index, slice_get, IfErr, IfOk, OnErr, OnOk};
+ghost use Rattle.std.specs.List.{list_all};
+ghost use Rattle.layer_core.specs.declared.check_fault.CheckFault.{CheckFault};
+ghost use Rattle.layer_core.specs.WellFormed.{Obeys};
+ghost use Rattle.unanimous_merge.specs.Merges.{IsMerged};
+ghost use Rattle.unanimous_merge.specs.Readings.{readings};
+ghost use Rattle.unanimous_merge.specs.Rows.{AreCoherent, held_at};
+ghost use Rattle.curator_decisions.specs.Curated.{curated};
+ghost use Rattle.curator_decisions.specs.Deciding.{IsFirstFault};
+ghost use Rattle.curator_decisions.specs.DecisionFaults.{changed_fault, decide_fault, decision_fault, first_broken, lacking, layer_fault, undecide_fault, undecided_fault, verdict_fault};
+ghost use Rattle.curator_decisions.specs.Decisions.{Ascend, with_verdict, without_verdict};
+ghost use Rattle.curator_decisions.specs.Naming.{entry_as};
+ghost use Rattle.curator_decisions.specs.Placing.{AreNames};
+
+use crate::building::curated_in;
+use crate::decision_fault::DecisionFault;
+use crate::decisions::Decisions;
+use crate::naming::{
+    all_places, dependent_on, entry_as, lacked, missing_of, named_places, needed_places,
+};
+use crate::numbering::is_in;
+use crate::verdict::Verdict;
+use annotation_conf::Conf;
+use char_documents::Doc;
+use layer_core::{CheckFault, check, may_commit};
+use layer_model::{Flaw, Layer, Rule, Snapshot};
+use mark_base::Memory;
+use std::alloc::Global;
+use std::collections::BTreeMap;
+use unanimous_merge::{Entry, ItemId, Merged};
+
+/// The flaw that a check tells.
+fn flaw_of(fault: CheckFault) -> Result<Flaw, Memory>
+    ensures { IfOk result (λ flaw. fault ≡ CheckFault.Flaw flaw) }
+{
+    match fault {
+        CheckFault::Flaw(flaw) => Ok(flaw),
+        CheckFault::Memory => Err(Memory),
+    }
+}
+
+/// The first rule by which a layer does not obey the configuration.
+fn first_broken(
+    alloc: Global,
+    layer: &Layer,
+    doc: &Doc,
+    conf: &Conf,
+) -> Result<Option<Rule>, Memory>
+    ensures rule { IfOk result (λ rule. rule ≡ first_broken conf.now (length doc.now) layer.now) }
+    ensures obeys { IfOk result (λ rule. rule ≡ None → Obeys conf.now (length doc.now) layer.now) }
+{
+    match check(alloc, layer, doc, conf) {
+        Ok(()) => Ok(may_commit(layer, conf)),
+        Err(fault) => {
+            let flaw = flaw_of(fault)?;
+            Ok(Some(flaw.rule))
+        }
+    }
+}
+
+/// The fault of the curated layer.
+fn layer_fault(
+    alloc: Global,
+    snapshot: &Snapshot,
+    merged: &Merged,
+    doc: &Doc,
+    conf: &Conf,
+    decisions: &Decisions,
+) -> Result<Option<DecisionFault>, Memory>
+    requires { IsMerged merged.now snapshot.now }
+    ensures fault { IfOk result (λ fault. fault ≡ layer_fault conf.now (length doc.now) (readings snapshot.now) decisions.now) }
+    ensures obeys { IfOk result (λ fault. fault ≡ None → Obeys conf.now (length doc.now) (curated (readings snapshot.now) decisions.now)) }
+{
+    let layer = curated_in(alloc, snapshot, merged, decisions)?;
+    match first_broken(alloc, &layer, doc, conf)? {
+        Some(rule) => Ok(Some(DecisionFault::Broken(rule))),
+        None => Ok(None),
+    }
+}
+
+/// What an item that is in lacks, and what lacks an item that is not.
+fn lacking(
+    alloc: Global,
+    snapshot: &Snapshot,
+    merged: &Merged,
+    decisions: &Decisions,
+    entry: Entry,
+) -> Result<Option<Entry>, Memory>
+    requires merged { IsMerged merged.now snapshot.now }
+    requires entry { (entry.place < length merged.now.table) × (slice_index merged.now.table entry.place ≡ 0 → ⊥) }
+    ensures { IfOk result (λ found. option_map (held_at merged.now.table) found ≡ lacking (readings snapshot.now) decisions.now (held_at merged.now.table entry)) }
+{
+    let all = all_places(alloc, merged.rows.as_slice())?;
+    let places = all.as_slice();
+    if is_in(merged, decisions, entry) {
+        let named = named_places(alloc, snapshot, places, entry)?;
+        return Ok(missing_of(merged, decisions, named.as_slice()));
+    }
+    let found = dependent_on(alloc, snapshot, merged, places, decisions, entry.place)?;
+    Ok(found)
+}
+
+/// The fault of decisions once they have changed at one item.
+fn changed_fault(
+    alloc: Global,
+    snapshot: &Snapshot,
+    merged: &Merged,
+    doc: &Doc,
+    conf: &Conf,
+    decisions: &Decisions,
+    entry: Entry,
+) -> Result<Option<DecisionFault>, Memory>
+    requires merged { IsMerged merged.now snapshot.now }
+    requires entry { (entry.place < length merged.now.table) × (slice_index merged.now.table entry.place ≡ 0 → ⊥) }
+    ensures fault { IfOk result (λ fault. fault ≡ changed_fault conf.now (length doc.now) (readings snapshot.now) decisions.now (held_at merged.now.table entry)) }
+    ensures obeys { IfOk result (λ fault. fault ≡ None → Obeys conf.now (length doc.now) (curated (readings snapshot.now) decisions.now)) }
+{
+    if let Some(other) = lacking(alloc, snapshot, merged, decisions, entry)? {
+        return Ok(Some(DecisionFault::NeedsItem(other.item)));
+    }
+    layer_fault(alloc, snapshot, merged, doc, conf, decisions)
+}
+
+/// The fault of a verdict on an item that is in, or is not.
+fn verdict_fault(is_in: bool, verdict: Verdict) -> Option<DecisionFault>
+    ensures { result ≡ verdict_fault is_in verdict }
+{
+    match verdict {
+        Verdict::Accept if is_in => Some(DecisionFault::AlreadyIn),
+        Verdict::Reject if !is_in => Some(DecisionFault::NotIn),
+        _ => None,
+    }
+}
+
+/// Whether each decided item is one.
+fn all_items(entries: &[Entry], pairs: &[(ItemId, Verdict)]) -> bool
+    ensures { result ≡ list_all (λ one. is_some (entry_as entries.now one.0)) pairs.now }
+{
+    for one in pairs {
+        if entry_as(entries, one.0).is_none() {
+            return false;
+        }
+    }
+    true
+}
+
+impl Decisions {
+    /// Sets the verdict on an item, in place of one that stood. The snapshot's layers are well-formed. A refusal
+    /// leaves the decisions as they were: `NoItem`, `AlreadyIn` and `NotIn` of the item, then `NeedsItem`, then
+    /// `Broken`. Cost: one curated layer and one check of it, and of each item that is in what it names.
+    pub fn decide(
+        &mut self,
+        snapshot: &Snapshot,
+        doc: &Doc,
+        conf: &Conf,
+        item: ItemId,
+        verdict: Verdict,
+    ) -> Result<(), DecisionFault>
+        requires { AreCoherent snapshot.now }
+        ensures decided { OnOk result (self.new ≡ with_verdict self.old item verdict) }
+        ensures kept { OnErr result (self.new ≡ self.old) }
+        ensures accepted { OnOk result (decide_fault conf.now (length doc.now) (readings snapshot.now) self.old item verdict ≡ None) }
+        ensures refused { IfErr result (IsFirstFault (decide_fault conf.now (length doc.now) (readings snapshot.now) self.old item verdict)) }
+        ensures obeys { OnOk result (Obeys conf.now (length doc.now) (curated (readings snapshot.now) self.new)) }
+    {
+        let alloc = self.allocator();
+        let merged = Merged::of(alloc, snapshot)?;
+        let Some(entry) = entry_as(merged.firsts.as_slice(), item) else {
+            return Err(DecisionFault::NoItem);
+        };
+        if let Some(fault) = verdict_fault(is_in(&merged, self, entry), verdict) {
+            return Err(fault);
+        }
+        let mut changed = self.copy()?;
+        changed.set(item, verdict)?;
+        if let Some(fault) = changed_fault(alloc, snapshot, &merged, doc, conf, &changed, entry)? {
+            return Err(fault);
+        }
+        *self = changed;
+        Ok(())
+    }
+
+    /// Takes the verdict on an item away. The snapshot's layers are well-formed. A refusal leaves the decisions
+    /// as they were: `NoItem` and `NotDecided` of the item, then `NeedsItem`, then `Broken`. Cost: as `decide`.
+    pub fn undecide(
+        &mut self,
+        snapshot: &Snapshot,
+        doc: &Doc,
+        conf: &Conf,
+        item: ItemId,
+    ) -> Result<(), DecisionFault>
+        requires { AreCoherent snapshot.now }
+        ensures decided { OnOk result (self.new ≡ without_verdict self.old item) }
+        ensures kept { OnErr result (self.new ≡ self.old) }
+        ensures accepted { OnOk result (undecide_fault conf.now (length doc.now) (readings snapshot.now) self.old item ≡ None) }
+        ensures refused { IfErr result (IsFirstFault (undecide_fault conf.now (length doc.now) (readings snapshot.now) self.old item)) }
+        ensures obeys { OnOk result (Obeys conf.now (length doc.now) (curated (readings snapshot.now) self.new)) }
+    {
+        let alloc = self.allocator();
+        let merged = Merged::of(alloc, snapshot)?;
+        let Some(entry) = entry_as(merged.firsts.as_slice(), item) else {
+            return Err(DecisionFault::NoItem);
+        };
+        if self.verdict(item).is_none() {
+            return Err(DecisionFault::NotDecided);
+        }
+        let mut changed = self.copy()?;
+        changed.unset(item);
+        if let Some(fault) = changed_fault(alloc, snapshot, &merged, doc, conf, &changed, entry)? {
+            return Err(fault);
+        }
+        *self = changed;
+        Ok(())
+    }
+
+    /// The decisions of a list in ascending order of items. The snapshot's layers are well-formed. Faults in
+    /// order: `NoItem`, then `NeedsItem` with the lowest item that is not in and that an item in names, then
+    /// `Broken`. A list of more than 4,294,967,295 decisions answers want of memory. Cost: as `decide`, and the
+    /// items for each decision.
+    pub fn of(
+        alloc: Global,
+        snapshot: &Snapshot,
+        doc: &Doc,
+        conf: &Conf,
+        pairs: &[(ItemId, Verdict)],
+    ) -> Result<Decisions, DecisionFault>
+        requires whole { AreCoherent snapshot.now }
+        requires ascending { Ascend pairs.now }
+        ensures decided { IfOk result (λ decisions. decisions ≡ pairs.now) }
+        ensures accepted { OnOk result (decision_fault conf.now (length doc.now) (readings snapshot.now) pairs.now ≡ None) }
+        ensures refused { IfErr result (IsFirstFault (decision_fault conf.now (length doc.now) (readings snapshot.now) pairs.now)) }
+        ensures obeys { OnOk result (Obeys conf.now (length doc.now) (curated (readings snapshot.now) pairs.now)) }
+    {
+        let decisions = Decisions::of_pairs(alloc, pairs)?;
+        let merged = Merged::of(alloc, snapshot)?;
+        if !all_items(merged.firsts.as_slice(), pairs) {
+            return Err(DecisionFault::NoItem);
+        }
+        let all = all_places(alloc, merged.rows.as_slice())?;
+        let flags = needed_places(alloc, snapshot, &merged, all.as_slice(), &decisions)?;
+        if let Some(other) = lacked(&merged, &decisions, flags.as_slice()) {
+            return Err(DecisionFault::NeedsItem(other.item));
+        }
+        if let Some(fault) = layer_fault(alloc, snapshot, &merged, doc, conf, &decisions)? {
+            return Err(fault);
+        }
+        Ok(decisions)
+    }
+}
