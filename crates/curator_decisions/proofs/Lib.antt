@@ -1,0 +1,4 @@
+pub mod UndecidedPart
+pub mod UndecidedOwn
+pub mod UndecidedPairs
+pub mod UndecidedRoom
