@@ -7,3 +7,7 @@ pub mod UndecidedMarks
 pub mod UndecidedItems
 pub mod UndecidedNumbers
 pub mod UndecidedCounts
+pub mod UndecidedRenames
+pub mod UndecidedTaken
+pub mod UndecidedClasses
+pub mod UndecidedObeys

@@ -141,7 +141,7 @@ count_ids place l =
 length_letters : (l : Annotations) (kind : Kind) → length (ids_of_letter l kind) ≡ length (numbers l kind)
 length_letters l kind = length_map (id_at kind) (numbers l kind)
 
-length_append : {X : Type 0} (xs ys : List X) → length (xs ++ ys) ≡ length xs + length ys
+pub length_append : {X : Type 0} (xs ys : List X) → length (xs ++ ys) ≡ length xs + length ys
 length_append [] ys = omega arith
 length_append (x ∷ xs) ys = let r : length (xs ++ ys) ≡ length xs + length ys = length_append xs ys in omega arith
 
@@ -196,6 +196,7 @@ above_none (e ∷ es) h = both _ _ (less 0 e.0 (h e.0 (inl refl))) (above_none e
     both : (a b : Bool) → T a → T b → T (a && b)
     both true b p q = q
     both false b p q = p
+
     less : (a b : ℕ) → a < b → T (is_lt (nat_cmp a b))
     less a b l = elim (nat_cmp a b) as (λ r. r ≡ nat_cmp a b → T (is_lt r)) [
       | Less ↦ λ w. tt

@@ -82,6 +82,7 @@ letter_before {V} kind m place ys at far rest = record {
   where
     past : (n : ℕ) (y : AnnId) → IsIn y ys → rank (id_at kind n) ≤ rank y
     past n y k = let e : letter_place kind + 1 ≤ letter_place y.kind = rest.from y k in let w : (id_at kind n).number ≤ 999999999 = (id_at kind n).within in omega arith
+
     go : (es : List (ℕ × V)) → Pairs NotAbove (map (id_at kind) (keys_of es)) → Pairs NotAbove (map (id_at kind) (keys_of es) ++ ys)
     go [] h = rest.up
     go (e ∷ es) h = (λ y k. elim (IsIn-either y (map (id_at kind) (keys_of es)) ys k) [ inl i ↦ h.0 y i | inr j ↦ past e.0 y j ], go es h.1)
@@ -231,16 +232,22 @@ module _ (first : Annotations) (others : List Reading) where
 
   own_rise : (ids : List AnnId) → Pairs NotAbove ids → Pairs (λ (a b : Held). rank a.id ≤ rank b.id) (map own ids)
   own_rise [] h = tt
-  own_rise (id ∷ ids) h = (λ y k.
-      let r : (x : AnnId) × (IsIn x ids × (y ≡ own x)) = map-IsIn own y ids k in
-      subst (λ (z : Held). rank id ≤ rank z.id) (sym r.1.1) (h.0 r.0 r.1.0), own_rise ids h.1)
+  own_rise (id ∷ ids) h = (
+    λ y k.
+        let r : (x : AnnId) × (IsIn x ids × (y ≡ own x)) = map-IsIn own y ids k in
+        subst (λ (z : Held). rank id ≤ rank z.id) (sym r.1.1) (h.0 r.0 r.1.0),
+    own_rise ids h.1,
+  )
 
   both_of : (xs : List Held) → Pairs (λ (a b : Held). rank a.id ≤ rank b.id) xs → Pairs Differ xs → ((h : Held) → IsIn h xs → IsChosen h) → Pairs LowerHeld xs
   both_of [] up apart is = tt
-  both_of (x ∷ xs) up apart is = (λ y k.
-      let low : rank x.id ≤ rank y.id = up.0 y k in
-      let other : rank x.id ≡ rank y.id → ⊥ = λ e. apart.0 y k ((is y (inr k)).content ∙ ap c (sym (same_rank x.id y.id e)) ∙ sym (is x (inl refl)).content) in
-      omega arith, both_of xs up.1 apart.1 (λ h k. is h (inr k)))
+  both_of (x ∷ xs) up apart is = (
+    λ y k.
+        let low : rank x.id ≤ rank y.id = up.0 y k in
+        let other : rank x.id ≡ rank y.id → ⊥ = λ e. apart.0 y k ((is y (inr k)).content ∙ ap c (sym (same_rank x.id y.id e)) ∙ sym (is x (inl refl)).content) in
+        omega arith,
+    both_of xs up.1 apart.1 (λ h k. is h (inr k)),
+  )
 
   pub chosen_rise : Pairs LowerHeld chosen
   chosen_rise =

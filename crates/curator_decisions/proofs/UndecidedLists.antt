@@ -14,9 +14,9 @@ in_filter p [] x h = absurd h
 in_filter {X} p (y ∷ ys) x h =
     elim (p y) as (λ b. p y ≡ b → IsIn x (cond b (y ∷ filter p ys) (filter p ys)) → ((x ≡ y) ⊎ IsIn x ys) × (p x ≡ true)) [
       | true ↦ λ e k. elim k [
-          | inl same ↦ (inl same, ap p same ∙ e)
-          | inr m ↦ let r : IsIn x ys × (p x ≡ true) = in_filter p ys x m in (inr r.0, r.1)
-        ]
+        | inl same ↦ (inl same, ap p same ∙ e)
+        | inr m ↦ let r : IsIn x ys × (p x ≡ true) = in_filter p ys x m in (inr r.0, r.1)
+      ]
       | false ↦ λ e k. let r : IsIn x ys × (p x ≡ true) = in_filter p ys x k in (inr r.0, r.1)
     ] refl h
 

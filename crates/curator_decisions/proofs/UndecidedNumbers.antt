@@ -49,12 +49,12 @@ pub numbered_is : (before hs : List Held) (one : Numbered) → IsIn one (numbere
 numbered_is before [] one k = absurd k
 numbered_is before (h ∷ hs) one k = elim k [
   | inl same ↦ subst (IsNumbered before (h ∷ hs)) (sym same) record {
-      among = inl refl;
-      place = count_of_letter (letter_of_item h) before;
-      id_is = refl;
-      above = omega arith;
-      below = omega (arith, count_append (of_letter (letter_of_item h)) before (h ∷ hs), count_cons (of_letter (letter_of_item h)) h hs, counts_itself h);
-    }
+    among = inl refl;
+    place = count_of_letter (letter_of_item h) before;
+    id_is = refl;
+    above = omega arith;
+    below = omega (arith, count_append (of_letter (letter_of_item h)) before (h ∷ hs), count_cons (of_letter (letter_of_item h)) h hs, counts_itself h);
+  }
   | inr m ↦
       let r : IsNumbered (before ++ h ∷ []) hs one = numbered_is (before ++ h ∷ []) hs one m in
       let l : Kind = letter_of_item one.held in
@@ -124,9 +124,12 @@ head_lower before x xs y low r few =
 -- the new IDs are in the order of the items
 pub numbers_rise : (before hs : List Held) → Pairs Rises hs → ((kind : Kind) → count_of_letter kind (before ++ hs) ≤ 10000) → Pairs LowerNew (numbered_behind before hs)
 numbers_rise before [] up few = tt
-numbers_rise before (x ∷ xs) up few = (λ y k.
-    let r : IsNumbered (before ++ x ∷ []) xs y = numbered_is (before ++ x ∷ []) xs y k in
-    head_lower before x xs y (up.0 y.held r.among) r (as_long (letter_of_item y.held)), numbers_rise (before ++ x ∷ []) xs up.1 as_long)
+numbers_rise before (x ∷ xs) up few = (
+  λ y k.
+      let r : IsNumbered (before ++ x ∷ []) xs y = numbered_is (before ++ x ∷ []) xs y k in
+      head_lower before x xs y (up.0 y.held r.among) r (as_long (letter_of_item y.held)),
+  numbers_rise (before ++ x ∷ []) xs up.1 as_long,
+)
   where
     as_long : (kind : Kind) → count_of_letter kind ((before ++ x ∷ []) ++ xs) ≤ 10000
     as_long kind =

@@ -134,6 +134,7 @@ none_told told (y ∷ ys) e x k = elim k [
     left : (a b : Option Rule) → option_or a b ≡ None → a ≡ None
     left None b h = refl
     left (Some r) b h = none_some (sym h)
+
     right : (a b : Option Rule) → option_or a b ≡ None → b ≡ None
     right None b h = h
     right (Some r) b h = none_some (sym h)
@@ -160,8 +161,8 @@ module _ (first layer : Annotations) (In : AnnId → Type 0) (new : AnnId → An
       ∙ all_test_map (λ arg. count_by (is_arg arg) (map (renamed_arg new) a) == count_by (is_arg arg) (map (renamed_arg new) b)) (renamed_arg new) (a ++ b)
       ∙ all_each (λ arg. count_by (is_arg (renamed_arg new arg)) (map (renamed_arg new) a) == count_by (is_arg (renamed_arg new arg)) (map (renamed_arg new) b)) (λ arg. count_by (is_arg arg) a == count_by (is_arg arg) b) (a ++ b)
       (λ arg k.
-          let i : In arg.target = elim (IsIn-either arg a b k) [ inl m ↦ all arg m | inr m ↦ more arg m ] in
-          λ j. same_count arg i a all j == same_count arg i b more j)
+      let i : In arg.target = elim (IsIn-either arg a b k) [ inl m ↦ all arg m | inr m ↦ more arg m ] in
+      λ j. same_count arg i a all j == same_count arg i b more j)
 
   args_in : (args : List Arg) → ((id : AnnId) → IsIn id (map (λ arg. arg.target) args) → In id) → AllIn args
   args_in args all arg k = all arg.target (IsIn-map (λ (a : Arg). a.target) arg args k)
@@ -221,6 +222,7 @@ module _ (first layer : Annotations) (In : AnnId → Type 0) (new : AnnId → An
             let apart : pairs mark o.was ≡ false =
             sym ((λ j. lt-ltb (rank o.old) (rank old) down j && option_map_or (pairs mark) (o.there j) false)) ∙ test in
             ap (pairs (renamed new mark)) o.mark_is ∙ same mark o.was (part.closed old mark i e) (part.closed o.old o.was o.within o.there) ∙ apart
+
         apart : (other : AnnId) (o : Option Mark) → mark_at layer other ≡ o → (nat_lt (rank other) (rank (new old)) && option_map_or (pairs (renamed new mark)) (mark_at layer other) false) ≡ false
         apart other None g = ap (λ o. nat_lt (rank other) (rank (new old)) && option_map_or (pairs (renamed new mark)) o false) g ∙ and_false (nat_lt (rank other) (rank (new old)))
         apart other (Some m) g = ap (λ o. nat_lt (rank other) (rank (new old)) && option_map_or (pairs (renamed new mark)) o false) g ∙ meets other m (part.from other m g) (nat_lt (rank other) (rank (new old))) refl

@@ -1,3 +1,4 @@
 pub mod Decisions
 pub mod Curated
 pub mod DecisionFaults
+pub mod Undecided

@@ -6,10 +6,12 @@
 
 mod decision_fault;
 mod decisions;
+mod laws;
 mod verdict;
 mod worked_rows;
 
 pub use crate::decision_fault::DecisionFault;
 pub use crate::decisions::Decisions;
+pub use crate::laws::undecided_layers_obey;
 pub use crate::verdict::Verdict;
 pub use crate::worked_rows::{examples_of_curated_layers, examples_of_decisions};
