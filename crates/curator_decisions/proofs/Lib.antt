@@ -1,8 +1,8 @@
+pub mod UndecidedLists
 pub mod UndecidedPart
 pub mod UndecidedOwn
 pub mod UndecidedPairs
 pub mod UndecidedRoom
-pub mod UndecidedLists
 pub mod UndecidedMarks
 pub mod UndecidedItems
 pub mod UndecidedNumbers

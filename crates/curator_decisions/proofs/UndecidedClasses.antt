@@ -1,26 +1,19 @@
 -- The classes of the layer that no decisions make are classes of the first layer, under new IDs, in their order.
-use Rattle.std.proofs.Common.{◌≡◌, ℕ, zero, suc, ◌+◌, ◌<◌, ◌≤◌, ◌⊎◌, ◌==◌, ◌&&◌, ◌||◌, nat_lt, eqb, eqb-true, eq-eqb, ne_eqb, Bool, true, false, not, cond, List, [], ◌∷◌, ◌++◌, map, length, slice_get, filter, refl, sym, ◌∙◌, ap, subst, inl, inr, Option, Some, None, IsSome, arith}
-use Rattle.std.proofs.lemmas.Bool.{lt-ltb}
+use Rattle.std.proofs.Common.{◌≡◌, ℕ, ◌<◌, ◌⊎◌, ◌==◌, ◌&&◌, ◌||◌, nat_lt, eqb-true, eq-eqb, Bool, true, false, not, cond, List, [], ◌∷◌, ◌++◌, map, length, refl, sym, ◌∙◌, ap, subst, inl, inr, arith}
 use Rattle.std.proofs.lemmas.Bool.Decides.{eqb_tells, nat_tests}
-use Rattle.std.proofs.lemmas.Option.{same_Some}
-use Rattle.std.specs.Option.{option_map, option_and_then}
-use Rattle.std.specs.List.{AllByRecursion, cons_option, filter_map, fold, list_any}
+use Rattle.std.specs.List.{AllByRecursion, fold, list_any}
 use Rattle.std.specs.List.Sorted.{IsStrictlySortedBy}
 use Rattle.std.specs.Ordering.{nat_cmp, match_ordering}
 use Rattle.std.specs.Cmp.{nat_cmp_is}
-use Rattle.std.specs.declared.cmp.Ordering.TheVariants.{Less, Equal, Greater}
+use Rattle.std.specs.declared.cmp.Ordering.TheVariants.{Less, Greater}
 use Rattle.mark_base.specs.declared.ann_id.AnnId.{AnnId}
-use Rattle.mark_base.specs.declared.ann_id.Kind.{Kind}
-use Rattle.mark_base.specs.declared.ann_id.Kind.TheVariants as letter
-use Rattle.mark_base.specs.declared.places.RelId.{RelId}
 use Rattle.layer_model.specs.declared.class.Class.{Class}
-use Rattle.layer_model.specs.Annotations.{Annotations}
 use Rattle.layer_model.specs.Classes.{AreClasses, AreDisjoint, Ascends, IsClass, Precedes, apart, ascending, comes_before, has_rank, insert_class, is_among, joined, least_of, rank, shares, sharing, with_id}
 use Rattle.layer_model.proofs.ClassOrder.{insert_class-last}
 use Rattle.layer_model.proofs.IdSets.{is_less, less}
 use Rattle.content_keys.specs.Nodes.{IsIn}
-use Rattle.curator_decisions.proofs.UndecidedLists.{Pairs}
-use Rattle.curator_decisions.proofs.UndecidedPart.{none_some, not_both, renamed_class}
+use Rattle.curator_decisions.proofs.UndecidedLists.{Pairs, or_true}
+use Rattle.curator_decisions.proofs.UndecidedPart.{not_both, renamed_class}
 
 -- ---- IDs that ascend are in their order already
 
@@ -91,10 +84,6 @@ rank_in place (id ∷ ids) h =
       | true ↦ λ e _. (id, (inl refl, eqb-true _ _ e))
       | false ↦ λ _ g. let r : (x : AnnId) × (IsIn x ids × (rank x ≡ place)) = rank_in place ids g in (r.0, (inr r.1.0, r.1.1))
     ] refl h
-
-or_true : (b : Bool) → (b || true) ≡ true
-or_true true = refl
-or_true false = refl
 
 pub in_rank : (id : AnnId) (ids : List AnnId) → IsIn id ids → has_rank (rank id) ids ≡ true
 in_rank id [] k = absurd k

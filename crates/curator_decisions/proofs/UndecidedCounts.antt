@@ -1,13 +1,13 @@
 -- How many annotations of a letter a layer has, and how many of them are items.
-use Rattle.std.proofs.Common.{◌≡◌, ℕ, zero, suc, ◌+◌, ◌<◌, ◌≤◌, ◌⊎◌, ◌==◌, ◌||◌, ◌&&◌, min, eqb, eq-eqb, Bool, true, false, cond, T, List, [], ◌∷◌, ◌++◌, map, length, slice_get, refl, sym, ◌∙◌, ap, subst, inl, inr, Option, Some, None, is_some, arith}
+use Rattle.std.proofs.Common.{◌≡◌, ℕ, zero, suc, ◌+◌, ◌<◌, ◌≤◌, ◌⊎◌, ◌==◌, ◌&&◌, min, eq-eqb, Bool, true, false, cond, T, List, [], ◌∷◌, ◌++◌, map, length, slice_get, refl, sym, ◌∙◌, ap, subst, inl, inr, Option, Some, None, is_some, arith}
 use Rattle.std.specs.Option.{option_map, option_map_or, option_and_then}
-use Rattle.std.specs.List.{count_by, filter, list_any}
-use Rattle.std.specs.Ordering.{nat_cmp, eq_by_cmp, is_eq, is_lt}
-use Rattle.std.specs.Cmp.{nat_cmp_total, ranked, tied_itself}
+use Rattle.std.specs.List.{count_by}
+use Rattle.std.specs.Ordering.{nat_cmp, is_lt}
+use Rattle.std.specs.Cmp.{ranked}
 use Rattle.std.specs.declared.cmp.Ordering.TheVariants.{Less, Equal, Greater}
 use Rattle.std.specs.Map.{keys_of}
 use Rattle.std.specs.FinMap as finite
-use Rattle.std.specs.FinMap.{contains_key-keys, entries_sorted}
+use Rattle.std.specs.FinMap.{entries_sorted}
 use Rattle.std.specs.FinMap.Entries.{below_all, is_sorted}
 use Rattle.mark_base.specs.declared.ann_id.AnnId.{AnnId}
 use Rattle.mark_base.specs.declared.ann_id.Kind.{Kind}
@@ -15,7 +15,6 @@ use Rattle.mark_base.specs.declared.ann_id.Kind.TheVariants as letter
 use Rattle.mark_base.specs.ReadIds.{id_at}
 use Rattle.layer_model.specs.declared.mark.Mark.{Mark}
 use Rattle.layer_model.specs.declared.mark.Mark.TheVariants as marked
-use Rattle.layer_model.specs.declared.rule.Rule.{Rule}
 use Rattle.layer_model.specs.declared.rule.Rule.TheVariants.{LayerFull}
 use Rattle.layer_model.specs.declared.flaw.FlawPlace.TheVariants as at
 use Rattle.layer_model.specs.Annotations.{Annotations}
@@ -23,7 +22,6 @@ use Rattle.layer_model.specs.Classes.{letter_place, rank}
 use Rattle.layer_model.specs.Layers.{IsLayer, mark_at, mark_of, numbers}
 use Rattle.layer_model.specs.Numbers.{NumbersFit}
 use Rattle.layer_core.specs.Ids.{ids_of_letter}
-use Rattle.layer_core.specs.Rules.{where_so}
 use Rattle.layer_core.specs.PairRules.{counted_letter, counted_with, is_id, layer_full}
 use Rattle.layer_core.specs.WellFormed.{Never, at_layer_full}
 use Rattle.content_keys.specs.Nodes.{IsIn}
@@ -34,25 +32,12 @@ use Rattle.unanimous_merge.specs.Readings.{Reading}
 use Rattle.unanimous_merge.specs.Unanimous.{in_each}
 use Rattle.unanimous_merge.proofs.ListLemmas.{length_map}
 use Rattle.curator_decisions.specs.Curated.{count_of_letter, curated_letter, letter_of_item}
-use Rattle.curator_decisions.proofs.UndecidedItems.{chosen, count_firsts, layers, own}
+use Rattle.curator_decisions.proofs.UndecidedItems.{chosen, count_firsts, is_less, layers, left, own, right}
 use Rattle.curator_decisions.proofs.UndecidedLists.{bit, count_append, count_cons, count_filter}
 use Rattle.curator_decisions.proofs.UndecidedOwn.{count_map}
-use Rattle.curator_decisions.proofs.UndecidedPart.{has_marked, in_keys, none_some}
+use Rattle.curator_decisions.proofs.UndecidedPart.{has_key, so_none}
 
 -- ---- what stands under a number of a letter
-
-or_true : (b : Bool) → (b || true) ≡ true
-or_true true = refl
-or_true false = refl
-
-in_any : (q : ℕ) (ns : List ℕ) → IsIn q ns → list_any (eq_by_cmp nat_cmp q) ns ≡ true
-in_any q [] h = absurd h
-in_any q (n ∷ ns) h = elim h [
-  | inl e ↦
-      let tied : eq_by_cmp nat_cmp q n ≡ true = ap (eq_by_cmp nat_cmp q) (sym e) ∙ ap is_eq (tied_itself nat_cmp_total q) in
-      ap (λ b. b || list_any (eq_by_cmp nat_cmp q) ns) tied
-  | inr k ↦ ap (λ b. eq_by_cmp nat_cmp q n || b) (in_any q ns k) ∙ or_true _
-]
 
 record IsFound (l : Annotations) (kind counted : Kind) (id : AnnId) : Type 0 where
   mark : Mark
@@ -63,7 +48,7 @@ found : {V : Type 0} (l : Annotations) (kind counted : Kind) (wrap : V → Mark)
     → (id : AnnId) → IsIn id (map (id_at kind) (finite.keys m)) → IsFound l kind counted id
 found {V} l kind counted wrap m same fits together id k =
     let r : (n : ℕ) × (IsIn n (finite.keys m) × (id ≡ id_at kind n)) = map-IsIn (id_at kind) id (finite.keys m) k in
-    let there : finite.contains_key m r.0 ≡ true = contains_key-keys m r.0 ∙ in_any r.0 (finite.keys m) r.1.0 in
+    let there : finite.contains_key m r.0 ≡ true = has_key m r.0 r.1.0 in
     let small : r.0 ≤ 999999999 = fits r.0 there in
     let number : min r.0 999999999 ≡ r.0 = omega arith in
     subst (IsFound l kind counted) (sym r.1.1) (by r.0 number (finite.get m r.0) refl there)
@@ -96,10 +81,6 @@ some_within (x ∷ xs) (suc i) o e = elim (some_within xs i o e) [
   | inl h ↦ inl (omega arith)
   | inr r ↦ inr (r.0, (inr r.1.0, r.1.1))
 ]
-
-so_none : (b : Bool) (rule : Rule) → b ≡ true → where_so b rule ≡ None → ⊥
-so_none true rule e h = none_some (sym h)
-so_none false rule e h = cc
 
 full : (l : Annotations) → Never (at_layer_full l) → (kind counted : Kind) (id : AnnId) → slice_get (counted_with l counted) 10000 ≡ Some id → IsFound l kind counted id → ⊥
 full l nowhere kind counted id e f =
@@ -170,23 +151,12 @@ few_items first others few kind =
 
 -- ---- numbers between 1 and 10,000 are at most so many
 
-is_less : (a b : ℕ) → T (is_lt (nat_cmp a b)) → a < b
-is_less a b h = elim (nat_cmp a b) as (λ r. r ≡ nat_cmp a b → T (is_lt r) → a < b) [
-  | Less ↦ λ w _. ranked a b Less w
-  | Equal ↦ λ _ g. absurd g
-  | Greater ↦ λ _ g. absurd g
-] refl h
-
-halves : (a b : Bool) → T (a && b) → T a × T b
-halves true b h = (tt, h)
-halves false b h = absurd h
-
 bounded : {V : Type 0} (low : ℕ) (es : List (ℕ × V)) → low ≤ 10000 → T (is_sorted nat_cmp es) → T (below_all nat_cmp low es) → ((n : ℕ) → IsIn n (keys_of es) → n ≤ 10000) → low + length es ≤ 10000
 bounded low [] small up above all = omega arith
 bounded low (e ∷ es) small up above all =
-    let first : low < e.0 = is_less low e.0 (halves _ _ above).0 in
+    let first : low < e.0 = is_less low e.0 (left _ _ above) in
     let here : e.0 ≤ 10000 = all e.0 (inl refl) in
-    let rest : e.0 + length es ≤ 10000 = bounded e.0 es here (halves _ _ up).1 (halves _ _ up).0 (λ n k. all n (inr k)) in
+    let rest : e.0 + length es ≤ 10000 = bounded e.0 es here (right _ _ up) (left _ _ up) (λ n k. all n (inr k)) in
     omega arith
 
 above_none : {V : Type 0} (es : List (ℕ × V)) → ((n : ℕ) → IsIn n (keys_of es) → 0 < n) → T (below_all nat_cmp 0 es)

@@ -1,6 +1,6 @@
 -- With no decisions the items that are in are annotations of the first layer, in the order of their IDs, one of each
 -- content that stands in every layer.
-use Rattle.std.proofs.Common.{◌≡◌, ℕ, zero, suc, ◌+◌, ◌<◌, ◌≤◌, ◌⊎◌, ◌==◌, ◌&&◌, ◌||◌, min, eqb, eqb-true, eq-eqb, ne_eqb, Bool, true, false, not, cond, T, List, [], ◌∷◌, ◌++◌, map, length, filter, refl, sym, ◌∙◌, ap, subst, inl, inr, Option, Some, None, arith}
+use Rattle.std.proofs.Common.{◌≡◌, ℕ, ◌+◌, ◌<◌, ◌≤◌, ◌⊎◌, ◌==◌, ◌&&◌, ◌||◌, min, eq-eqb, ne_eqb, Bool, true, false, not, cond, T, List, [], ◌∷◌, ◌++◌, map, filter, refl, sym, ◌∙◌, ap, subst, inl, inr, arith}
 use Rattle.std.proofs.lemmas.Bool.Decides.{eqb_tells}
 use Rattle.std.specs.List.{count_by, list_all, list_any}
 use Rattle.std.specs.Map.{keys_of}
@@ -25,22 +25,22 @@ use Rattle.unanimous_merge.specs.Readings.{Reading, contents, reading_of}
 use Rattle.unanimous_merge.specs.Unanimous.{in_each}
 use Rattle.unanimous_merge.proofs.ListLemmas.{any_map}
 use Rattle.curator_decisions.specs.Decisions.{items_in}
-use Rattle.curator_decisions.proofs.UndecidedLists.{Pairs, count_cons, count_filter, filter_in, filter_nothing, filter_twice, in_filter, pairs_filter, pairs_more}
+use Rattle.curator_decisions.proofs.UndecidedLists.{Pairs, count_cons, count_filter, filter_in, filter_nothing, filter_twice, in_filter, pairs_filter}
 
 -- ---- the IDs of a layer are in their order
 
 abbrev pub NotAbove : AnnId → AnnId → Type 0
 NotAbove a b = rank a ≤ rank b
 
-left : (a b : Bool) → T (a && b) → T a
+pub left : (a b : Bool) → T (a && b) → T a
 left true b h = tt
 left false b h = h
 
-right : (a b : Bool) → T (a && b) → T b
+pub right : (a b : Bool) → T (a && b) → T b
 right true b h = h
 right false b h = absurd h
 
-is_less : (a b : ℕ) → T (is_lt (nat_cmp a b)) → a < b
+pub is_less : (a b : ℕ) → T (is_lt (nat_cmp a b)) → a < b
 is_less a b h = elim (nat_cmp a b) as (λ r. r ≡ nat_cmp a b → T (is_lt r) → a < b) [
   | Less ↦ λ w _. ranked a b Less w
   | Equal ↦ λ _ g. absurd g

@@ -1,5 +1,5 @@
 -- The layer that no decisions make is a part of the first layer under new IDs, and so it obeys what that obeys.
-use Rattle.std.proofs.Common.{◌≡◌, ℕ, zero, suc, ◌+◌, ◌<◌, ◌≤◌, ◌⊎◌, Bool, true, false, cond, List, [], ◌∷◌, ◌++◌, map, length, slice_get, filter, refl, sym, ◌∙◌, ap, subst, inl, inr, Option, Some, None, IsSome, is_some, All, arith}
+use Rattle.std.proofs.Common.{◌≡◌, ℕ, zero, suc, ◌<◌, ◌≤◌, Bool, true, false, cond, List, [], ◌∷◌, map, length, slice_get, filter, refl, sym, ◌∙◌, ap, subst, inl, inr, Option, Some, None, IsSome, is_some, All, arith}
 use Rattle.std.proofs.lemmas.Option.{same_Some}
 use Rattle.std.specs.Option.{option_map, option_and_then, unwrap_or}
 use Rattle.std.specs.List.{AllByRecursion, cons_option, filter_map, fold}
@@ -12,31 +12,30 @@ use Rattle.mark_base.specs.declared.ann_id.Kind.{Kind}
 use Rattle.mark_base.specs.declared.ann_id.Kind.TheVariants as letter
 use Rattle.annotation_conf.specs.Configurations.{Configuration}
 use Rattle.layer_model.specs.declared.class.Class.{Class}
-use Rattle.layer_model.specs.declared.mark.Mark.{Mark}
 use Rattle.layer_model.specs.declared.mark.Mark.TheVariants as marked
 use Rattle.layer_model.specs.declared.span.Span.{Span}
 use Rattle.layer_model.specs.Annotations.{Annotations}
-use Rattle.layer_model.specs.Classes.{IsClass, Precedes, joined, rank}
+use Rattle.layer_model.specs.Classes.{Precedes, joined, rank}
 use Rattle.layer_model.specs.Coherent.{AllStand, IsCoherent, is_span_letter}
-use Rattle.layer_model.specs.Layers.{IsLayer, has, has_number, mark_at, mark_of}
+use Rattle.layer_model.specs.Layers.{IsLayer, has, has_number, mark_of}
 use Rattle.layer_core.specs.PairRules.{counted_with}
 use Rattle.layer_core.specs.WellFormed.{IsWellFormed, Obeys}
 use Rattle.content_keys.specs.Nodes.{IsIn}
-use Rattle.content_keys.specs.LayerContents.{class_content, content_of, node_of, node_of_mark}
+use Rattle.content_keys.specs.LayerContents.{class_content, content_of, node_of_mark}
 use Rattle.content_keys.proofs.IdLemmas.{same_rank}
-use Rattle.unanimous_merge.specs.Readings.{Reading, reading_of, readings}
+use Rattle.unanimous_merge.specs.Readings.{reading_of, readings}
 use Rattle.unanimous_merge.specs.Unanimous.{class_in_each}
 use Rattle.unanimous_merge.proofs.ListLemmas.{all_head, all_tail}
-use Rattle.curator_decisions.specs.Curated.{Numbered, all_new, class_taken, classes_taken, curated, layer_of, new_id, numbered_behind, rename_in, taken}
+use Rattle.curator_decisions.specs.Curated.{Numbered, all_new, class_taken, classes_taken, curated, layer_of, new_id, numbered_behind, taken}
 use Rattle.curator_decisions.specs.Undecided.{UndecidedLayersObey}
 use Rattle.curator_decisions.proofs.UndecidedClasses.{IsOrdered, Lower, ascends_pairs, class_in, classes_pairs, joined_are, precedes_still, renamed_up}
 use Rattle.curator_decisions.proofs.UndecidedCounts.{few_counted}
 use Rattle.curator_decisions.proofs.UndecidedItems.{items_are, layers}
-use Rattle.curator_decisions.proofs.UndecidedLists.{Pairs, in_filter, pairs_filter}
+use Rattle.curator_decisions.proofs.UndecidedLists.{Pairs, in_filter, in_given, pairs_filter, pairs_given}
 use Rattle.curator_decisions.proofs.UndecidedPart.{ClassOrigin, IsPart, none_some, renamed_class}
 use Rattle.curator_decisions.proofs.UndecidedRenames.{HasNode, In, IsWhole, found_new, in_closed, in_letter, in_node, is_item, new, ns}
 use Rattle.curator_decisions.proofs.UndecidedRoom.{part_obeys}
-use Rattle.curator_decisions.proofs.UndecidedTaken.{few_here, fits, from, in_given, kept, layer, pairs_given, rising}
+use Rattle.curator_decisions.proofs.UndecidedTaken.{few_here, fits, from, kept, layer, rising}
 
 -- ---- members of classes are spans
 

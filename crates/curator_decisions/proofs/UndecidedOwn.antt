@@ -1,8 +1,8 @@
 -- The rules on one annotation, and on what it names, carry from a layer to its part.
-use Rattle.std.proofs.Common.{◌≡◌, ℕ, ◌+◌, ◌≤◌, ◌==◌, not, nat_le, nat_lt, Bool, true, false, ◌||◌, ◌&&◌, cond, List, [], ◌∷◌, map, length, slice_get, refl, sym, ◌∙◌, ap, subst, inl, inr, Option, Some, None, arith}
+use Rattle.std.proofs.Common.{◌≡◌, ℕ, ◌+◌, ◌==◌, not, nat_le, nat_lt, Bool, true, false, cond, List, [], ◌∷◌, map, length, refl, sym, ◌∙◌, ap, inl, inr, Option, Some, None}
 use Rattle.std.proofs.lemmas.List.Sums.{sum_by-cons}
 use Rattle.std.specs.Option.{option_map, option_map_or, option_and_then}
-use Rattle.std.specs.List.{count_by, find, list_any, range_with_len}
+use Rattle.std.specs.List.{count_by, find, range_with_len}
 use Rattle.std.specs.FinMap as finite
 use Rattle.mark_base.specs.declared.ann_id.AnnId.{AnnId}
 use Rattle.mark_base.specs.declared.ann_id.Kind.{Kind}
@@ -14,9 +14,8 @@ use Rattle.mark_base.proofs.IdLemmas.{id_at-id}
 use Rattle.annotation_conf.specs.declared.attr_target.AttrTarget.{AttrTarget}
 use Rattle.annotation_conf.specs.declared.attr_target.AttrTarget.TheVariants.{Bound, Between}
 use Rattle.annotation_conf.specs.Configurations.{Configuration}
-use Rattle.annotation_conf.specs.Lookups.{attribute_admits, role_admits, role_least, role_most, roles_of}
+use Rattle.annotation_conf.specs.Lookups.{attribute_admits, role_admits, role_most, roles_of}
 use Rattle.layer_model.specs.declared.class.Class.{Class}
-use Rattle.layer_model.specs.declared.event.Event.{Event}
 use Rattle.layer_model.specs.declared.mark.Mark.{Mark}
 use Rattle.layer_model.specs.declared.mark.Mark.TheVariants as marked
 use Rattle.layer_model.specs.declared.rule.Rule.{Rule}
@@ -31,10 +30,10 @@ use Rattle.layer_core.specs.PairRules.{bad_text}
 use Rattle.layer_core.specs.Targets.{is_argument, is_attribute_target, is_member, is_normal_target, is_note_target, is_trigger, target_by, target_of, type_by, type_of}
 use Rattle.layer_core.specs.WellFormed.{Never, at_argument_type, at_bad_fragments, at_bad_text, at_no_such, at_not_for_use, at_out_of_text, at_span_too_long, at_too_many, at_unknown_role, at_unknown_type, at_unknown_value, at_wrong_kind, no_class}
 use Rattle.content_keys.specs.Nodes.{IsIn}
-use Rattle.content_keys.proofs.BagLemmas.{IsIn-map, map-IsIn, map_map}
+use Rattle.content_keys.proofs.BagLemmas.{IsIn-map, map-IsIn}
 use Rattle.unanimous_merge.proofs.ListLemmas.{any_map}
 use Rattle.curator_decisions.specs.Curated.{curated_letter, renamed, renamed_arg}
-use Rattle.curator_decisions.proofs.UndecidedPart.{ClassOrigin, IsPart, carry, find_mapped, find_none, has_marked, names_renamed, none_found, none_some, renamed_class, trigger_is, unmapped}
+use Rattle.curator_decisions.proofs.UndecidedPart.{IsPart, carry, find_mapped, find_none, has_marked, names_renamed, renamed_class, trigger_is, unmapped}
 
 -- ---- rules on a mark alone
 

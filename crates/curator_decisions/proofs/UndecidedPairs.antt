@@ -1,5 +1,5 @@
 -- The rules on two annotations, on chains of events and on classes, and what may be committed, carry from a layer to its part.
-use Rattle.std.proofs.Common.{◌≡◌, ℕ, zero, suc, ◌+◌, ◌<◌, ◌≤◌, ◌⊎◌, ◌==◌, eqb, not, nat_lt, Bool, true, false, ◌||◌, ◌&&◌, cond, List, [], ◌∷◌, ◌++◌, map, length, slice_get, refl, sym, ◌∙◌, ap, subst, inl, inr, Option, Some, None, is_some, arith}
+use Rattle.std.proofs.Common.{◌≡◌, ℕ, zero, suc, ◌+◌, ◌<◌, ◌≤◌, ◌==◌, eqb, not, nat_lt, Bool, true, false, ◌||◌, ◌&&◌, cond, List, [], ◌∷◌, ◌++◌, map, length, refl, sym, ◌∙◌, ap, inl, inr, Option, Some, None, is_some, arith}
 use Rattle.std.proofs.lemmas.Bool.{lt-ltb}
 use Rattle.std.proofs.lemmas.Bool.Decides.{nat_tests}
 use Rattle.std.proofs.lemmas.List.{map-append}
@@ -11,12 +11,10 @@ use Rattle.mark_base.specs.declared.ann_id.AnnId.{AnnId}
 use Rattle.mark_base.specs.declared.ann_id.Kind.{Kind}
 use Rattle.mark_base.specs.declared.ann_id.Kind.TheVariants as letter
 use Rattle.mark_base.specs.declared.arguments.Arg.{Arg}
-use Rattle.mark_base.specs.declared.places.TypeId.{TypeId}
 use Rattle.mark_base.specs.ReadIds.{id_at}
-use Rattle.mark_base.proofs.IdLemmas.{id_at-id, id_of_parts}
+use Rattle.mark_base.proofs.IdLemmas.{id_of_parts}
 use Rattle.annotation_conf.specs.Configurations.{Configuration}
 use Rattle.annotation_conf.specs.Lookups.{role_least, roles_of}
-use Rattle.layer_model.specs.declared.class.Class.{Class}
 use Rattle.layer_model.specs.declared.event.Event.{Event}
 use Rattle.layer_model.specs.declared.mark.Mark.{Mark}
 use Rattle.layer_model.specs.declared.mark.Mark.TheVariants as marked
@@ -26,11 +24,11 @@ use Rattle.layer_model.specs.declared.rule.RoleAt.TheVariants as role
 use Rattle.layer_model.specs.Annotations.{Annotations}
 use Rattle.layer_model.specs.Classes.{rank}
 use Rattle.layer_model.specs.Coherent.{named, trigger_id}
-use Rattle.layer_model.specs.Layers.{has_number, mark_at, mark_of}
+use Rattle.layer_model.specs.Layers.{mark_at, mark_of}
 use Rattle.layer_core.specs.Ids.{ids_of}
 use Rattle.layer_core.specs.Places.{by_place}
 use Rattle.layer_core.specs.Rules.{where_so}
-use Rattle.layer_core.specs.PairRules.{are_bad_members, attribute_there, begins_longer_chain, equiv_members, is_arg, is_event_id, is_id, letter_is_event, lower_pair, may_be_equal, overlap_refused, refused_overlap, same_attributes, same_bag, same_event, same_events, same_relation, same_relations, same_span, same_spans, too_deep}
+use Rattle.layer_core.specs.PairRules.{are_bad_members, begins_longer_chain, equiv_members, is_arg, is_event_id, is_id, letter_is_event, lower_pair, may_be_equal, refused_overlap, same_attributes, same_bag, same_events, same_relations, same_spans, too_deep}
 use Rattle.layer_core.specs.Targets.{type_of}
 use Rattle.layer_core.specs.WellFormed.{Never, at_attribute_there, at_equiv_members, at_overlap_refused, at_same_event, at_same_relation, at_same_span, at_too_deep, commit_fault, first_told, no_class, too_few, too_few_of}
 use Rattle.content_keys.specs.Nodes.{IsIn}
@@ -38,7 +36,7 @@ use Rattle.content_keys.proofs.BagLemmas.{IsIn-map, IsIn-either}
 use Rattle.content_keys.proofs.IdLemmas.{same_rank}
 use Rattle.unanimous_merge.proofs.ListLemmas.{all_test_map, any_map, length_map, same_test}
 use Rattle.curator_decisions.specs.Curated.{curated_letter, renamed, renamed_arg, renamed_event}
-use Rattle.curator_decisions.proofs.UndecidedPart.{IsPart, Origin, carry, find_none, has_marked, in_ids, in_keys, lower, none_found, none_some, not_both, one, renamed_class, unmapped}
+use Rattle.curator_decisions.proofs.UndecidedPart.{IsPart, Origin, carry, find_none, in_ids, in_keys, lower, none_found, none_some, one, unmapped}
 use Rattle.curator_decisions.proofs.UndecidedOwn.{count_map, same_filled, type_same}
 
 -- ---- tests that agree on each of a list

@@ -1,9 +1,9 @@
 -- A layer that is a part of another one under new IDs: a rule that breaks nowhere in the whole breaks nowhere in the part.
-use Rattle.std.proofs.Common.{◌≡◌, ℕ, ◌<◌, ◌≤◌, ◌⊎◌, Bool, true, false, ◌||◌, cond, List, [], ◌∷◌, ◌++◌, map, slice_get, refl, sym, ◌∙◌, ap, subst, inl, inr, Option, Some, None, arith}
+use Rattle.std.proofs.Common.{◌≡◌, ℕ, ◌<◌, ◌≤◌, ◌⊎◌, Bool, true, false, ◌||◌, cond, List, [], ◌∷◌, map, slice_get, refl, sym, ◌∙◌, ap, subst, inl, inr, Option, Some, None, arith}
 use Rattle.std.specs.Option.{option_map, option_and_then, is_some}
 use Rattle.std.specs.List.{find, list_any}
 use Rattle.std.specs.Ordering.{nat_cmp, eq_by_cmp, is_eq}
-use Rattle.std.specs.Cmp.{Equal-is, ranked}
+use Rattle.std.specs.Cmp.{Equal-is, nat_cmp_total, ranked, tied_itself}
 use Rattle.std.specs.declared.cmp.Ordering.TheVariants.{Less, Equal, Greater}
 use Rattle.std.specs.FinMap as finite
 use Rattle.std.specs.FinMap.{contains_key-keys, nat_cmp-IsAntisymmetric}
@@ -16,20 +16,20 @@ use Rattle.layer_model.specs.declared.class.Class.{Class}
 use Rattle.layer_model.specs.declared.mark.Mark.{Mark}
 use Rattle.layer_model.specs.declared.mark.Mark.TheVariants as marked
 use Rattle.layer_model.specs.declared.rule.Rule.{Rule}
-use Rattle.layer_model.specs.declared.flaw.FlawPlace.{FlawPlace}
 use Rattle.layer_model.specs.declared.flaw.FlawPlace.TheVariants as at
 use Rattle.layer_model.specs.Annotations.{Annotations}
 use Rattle.layer_model.specs.Classes.{rank}
 use Rattle.layer_model.specs.Coherent.{named, trigger_id}
-use Rattle.layer_model.specs.Layers.{has, has_number, mark_at, mark_of, numbers}
+use Rattle.layer_model.specs.Layers.{has_number, mark_at, mark_of, numbers}
 use Rattle.layer_core.specs.Ids.{ids_of, ids_of_letter}
 use Rattle.layer_core.specs.Places.{by_place}
-use Rattle.layer_core.specs.Rules.{named_by}
+use Rattle.layer_core.specs.Rules.{named_by, where_so}
 use Rattle.layer_core.specs.WellFormed.{Never}
 use Rattle.content_keys.specs.Nodes.{IsIn}
 use Rattle.content_keys.proofs.BagLemmas.{IsIn-map, IsIn-left, IsIn-right, map_map}
 use Rattle.content_keys.proofs.IdLemmas.{same_rank}
 use Rattle.curator_decisions.specs.Curated.{curated_letter, renamed, renamed_arg}
+use Rattle.curator_decisions.proofs.UndecidedLists.{or_true}
 
 -- where a mark of the part comes from
 pub record Origin (first : Annotations) (In : AnnId → Type 0) (new : AnnId → AnnId) (id : AnnId) (mark : Mark) : Type 0 where
@@ -80,6 +80,10 @@ unmapped f (Some x) e = none_some (sym e)
 pub not_both : {A : Type 0} (b : Bool) → b ≡ true → b ≡ false → A
 not_both b so isnt = absurd (let e : true ≡ false = sym so ∙ isnt in cc)
 
+pub so_none : (b : Bool) (rule : Rule) → b ≡ true → where_so b rule ≡ None → ⊥
+so_none true rule e h = none_some (sym h)
+so_none false rule e h = cc
+
 pub find_none : {X : Type 0} (p : X → Bool) (xs : List X) → ((x : X) → IsIn x xs → p x ≡ false) → find p xs ≡ None
 find_none p [] h = refl
 find_none p (x ∷ xs) h = ap (λ b. cond b (Some x) (find p xs)) (h x (inl refl)) ∙ find_none p xs (λ y k. h y (inr k))
@@ -123,6 +127,18 @@ any_in q (n ∷ ns) h =
       | true ↦ λ e _. inl (nat_cmp-IsAntisymmetric q n ((Equal-is (nat_cmp q n)).0 e))
       | false ↦ λ _ g. inr (any_in q ns g)
     ] refl h
+
+in_any : (q : ℕ) (ns : List ℕ) → IsIn q ns → list_any (eq_by_cmp nat_cmp q) ns ≡ true
+in_any q [] h = absurd h
+in_any q (n ∷ ns) h = elim h [
+  | inl e ↦
+      let tied : eq_by_cmp nat_cmp q n ≡ true = ap (eq_by_cmp nat_cmp q) (sym e) ∙ ap is_eq (tied_itself nat_cmp_total q) in
+      ap (λ b. b || list_any (eq_by_cmp nat_cmp q) ns) tied
+  | inr k ↦ ap (λ b. eq_by_cmp nat_cmp q n || b) (in_any q ns k) ∙ or_true _
+]
+
+pub has_key : {V : Type 0} (m : finite.FinMap nat_cmp V) (n : ℕ) → IsIn n (finite.keys m) → finite.contains_key m n ≡ true
+has_key m n k = contains_key-keys m n ∙ in_any n (finite.keys m) k
 
 pub in_keys : {V : Type 0} (m : finite.FinMap nat_cmp V) (n : ℕ) → finite.contains_key m n ≡ true → IsIn n (finite.keys m)
 in_keys m n h = any_in n (finite.keys m) (sym (contains_key-keys m n) ∙ h)

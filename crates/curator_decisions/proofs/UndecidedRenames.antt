@@ -1,9 +1,8 @@
 -- The IDs of the items that are in where nothing is decided: what an item names is an item that is in.
-use Rattle.std.proofs.Common.{◌≡◌, ℕ, zero, suc, ◌+◌, ◌<◌, ◌≤◌, ◌⊎◌, ◌==◌, ◌&&◌, ◌||◌, eqb, eqb-true, eq-eqb, ne_eqb, Bool, true, false, cond, List, [], ◌∷◌, ◌++◌, map, refl, sym, ◌∙◌, ap, subst, inl, inr, Option, Some, None, IsSome, arith}
-use Rattle.std.proofs.lemmas.Bool.Decides.{eqb_tells}
+use Rattle.std.proofs.Common.{◌≡◌, ℕ, zero, suc, ◌⊎◌, ◌==◌, ◌&&◌, ◌||◌, eqb-true, eq-eqb, ne_eqb, Bool, true, false, cond, List, [], ◌∷◌, map, refl, sym, ◌∙◌, ap, subst, inl, inr, Option, Some, None, IsSome}
 use Rattle.std.proofs.lemmas.Option.{same_Some}
-use Rattle.std.specs.Option.{option_map, option_and_then, unwrap_or}
-use Rattle.std.specs.List.{AllByRecursion, list_all, list_any}
+use Rattle.std.specs.Option.{option_and_then, unwrap_or}
+use Rattle.std.specs.List.{AllByRecursion, list_any}
 use Rattle.mark_base.specs.declared.ann_id.AnnId.{AnnId}
 use Rattle.mark_base.specs.declared.ann_id.Kind.{Kind}
 use Rattle.mark_base.specs.declared.ann_id.Kind.TheVariants as letter
@@ -11,7 +10,6 @@ use Rattle.mark_base.specs.declared.arguments.Arg.{Arg}
 use Rattle.layer_model.specs.declared.mark.Mark.{Mark}
 use Rattle.layer_model.specs.declared.mark.Mark.TheVariants as marked
 use Rattle.layer_model.specs.Annotations.{Annotations}
-use Rattle.layer_model.specs.Classes.{rank}
 use Rattle.layer_model.specs.Coherent.{IsCoherent, LettersFitIn, is_attributed_letter, is_span_or_event_letter, named}
 use Rattle.layer_model.specs.Layers.{IsLayer, mark_at}
 use Rattle.content_keys.specs.Nodes.{AreAlike, IsIn, Names, Node}
@@ -25,12 +23,12 @@ use Rattle.content_keys.proofs.LawLemmas.{parts_decide}
 use Rattle.content_keys.proofs.NodeLemmas.{number_alike}
 use Rattle.content_keys.proofs.OneLemmas.{one_of_content}
 use Rattle.unanimous_merge.specs.Items.{Held, stands}
-use Rattle.unanimous_merge.specs.Readings.{Reading, contents, reading_of, readings}
+use Rattle.unanimous_merge.specs.Readings.{contents, reading_of, readings}
 use Rattle.unanimous_merge.specs.Unanimous.{in_each}
 use Rattle.unanimous_merge.proofs.ListLemmas.{any_map}
 use Rattle.curator_decisions.specs.Curated.{Numbered, curated_letter, new_id, numbered_behind, rename_in}
 use Rattle.curator_decisions.proofs.UndecidedItems.{Differ, IsChosen, are_chosen, chosen, chosen_differ, chosen_have, layers}
-use Rattle.curator_decisions.proofs.UndecidedLists.{Pairs}
+use Rattle.curator_decisions.proofs.UndecidedLists.{Pairs, or_true}
 use Rattle.curator_decisions.proofs.UndecidedNumbers.{letter_kept, numbered_all, numbered_is, numbered_pairs}
 use Rattle.curator_decisions.proofs.UndecidedPart.{none_some}
 
@@ -117,20 +115,13 @@ names_known (marked.Note note) s e fit y k = none_some e
 
 -- ---- a content that stands in each layer names contents that do
 
-is_equal : (a b : ℕ) → (a == b) ≡ true → a ≡ b
-is_equal a b e = eqb-true a b e
-
 stands_at : (l : Annotations) (k : ℕ) (ids : List AnnId) → list_any (λ id. content_of l id == k) ids ≡ true → (z : AnnId) × (IsIn z ids × (content_of l z ≡ k))
 stands_at l k [] h = absurd (let f : false ≡ true = h in cc)
 stands_at l k (id ∷ ids) h =
     elim (content_of l id == k) as (λ b. (content_of l id == k) ≡ b → (b || list_any (λ x. content_of l x == k) ids) ≡ true → (z : AnnId) × (((z ≡ id) ⊎ IsIn z ids) × (content_of l z ≡ k))) [
-      | true ↦ λ e _. (id, (inl refl, is_equal _ _ e))
+      | true ↦ λ e _. (id, (inl refl, eqb-true _ _ e))
       | false ↦ λ _ g. let r : (z : AnnId) × (IsIn z ids × (content_of l z ≡ k)) = stands_at l k ids g in (r.0, (inr r.1.0, r.1.1))
     ] refl h
-
-or_true : (b : Bool) → (b || true) ≡ true
-or_true true = refl
-or_true false = refl
 
 at_stands : (l : Annotations) (k : ℕ) (ids : List AnnId) (z : AnnId) → IsIn z ids → content_of l z ≡ k → list_any (λ id. content_of l id == k) ids ≡ true
 at_stands l k [] z i e = absurd i
@@ -192,7 +183,7 @@ pub found_new : (xs : List Numbered) (content : ℕ) (id : AnnId) → new_id xs 
 found_new [] content id e = none_some e
 found_new (x ∷ xs) content id e =
     elim (x.held.content == content) as (λ b. (x.held.content == content) ≡ b → cond b (Some x.id) (new_id xs content) ≡ Some id → (one : Numbered) × (((one ≡ x) ⊎ IsIn one xs) × ((one.held.content ≡ content) × (one.id ≡ id)))) [
-      | true ↦ λ t g. (x, (inl refl, (is_equal _ _ t, same_Some _ _ g)))
+      | true ↦ λ t g. (x, (inl refl, (eqb-true _ _ t, same_Some _ _ g)))
       | false ↦ λ _ g. let r : (one : Numbered) × (IsIn one xs × ((one.held.content ≡ content) × (one.id ≡ id))) = found_new xs content id g in (r.0, (inr r.1.0, r.1.1))
     ] refl e
 

@@ -1,20 +1,19 @@
 -- A part has room where the whole has, and so it obeys what the whole obeys.
-use Rattle.std.proofs.Common.{◌≡◌, ℕ, zero, suc, ◌+◌, ◌<◌, ◌≤◌, ◌⊎◌, ◌==◌, nat_lt, Bool, true, false, List, [], ◌∷◌, ◌++◌, map, length, slice_get, refl, sym, ◌∙◌, ap, subst, inl, inr, Option, Some, None, arith, eq-eqb, ne_eqb}
-use Rattle.std.specs.Option.{option_map, option_map_or, option_and_then}
+use Rattle.std.proofs.Common.{◌≡◌, ℕ, zero, suc, ◌<◌, ◌≤◌, ◌==◌, true, false, List, [], ◌∷◌, length, slice_get, refl, sym, ◌∙◌, ap, Option, Some, None, arith, eq-eqb, ne_eqb}
+use Rattle.std.specs.Option.{option_map_or, option_and_then}
 use Rattle.mark_base.specs.declared.ann_id.AnnId.{AnnId}
 use Rattle.mark_base.specs.declared.ann_id.Kind.{Kind}
 use Rattle.mark_base.specs.declared.ann_id.Kind.TheVariants as letter
 use Rattle.annotation_conf.specs.Configurations.{Configuration}
 use Rattle.layer_model.specs.declared.class.Class.{Class}
 use Rattle.layer_model.specs.declared.mark.Mark.{Mark}
-use Rattle.layer_model.specs.declared.rule.Rule.{Rule}
 use Rattle.layer_model.specs.declared.rule.Rule.TheVariants.{LayerFull}
 use Rattle.layer_model.specs.declared.flaw.FlawPlace.TheVariants as at
 use Rattle.layer_model.specs.Annotations.{Annotations}
 use Rattle.layer_core.specs.Rules.{where_so}
 use Rattle.layer_core.specs.PairRules.{classes_full, counted_letter, counted_with, is_id, layer_full}
 use Rattle.layer_core.specs.WellFormed.{IsWellFormed, Never, Obeys, at_layer_full}
-use Rattle.curator_decisions.proofs.UndecidedPart.{ClassOrigin, IsPart, none_some, not_both}
+use Rattle.curator_decisions.proofs.UndecidedPart.{ClassOrigin, IsPart, none_some, so_none}
 use Rattle.curator_decisions.proofs.UndecidedOwn.{arguments_carry, counts_carry, ends_carry, fragments_carry, kinds_carry, names_carry, reaches_carry, roles_carry, texts_carry, types_carry, use_carries, values_carry}
 use Rattle.curator_decisions.proofs.UndecidedPairs.{attributes_carry, chains_carry, enough_carries, members_carry, overlaps_carry, same_events_carry, same_relations_carry, same_spans_carry}
 
@@ -27,15 +26,6 @@ within : {X : Type 0} (xs : List X) (i : ℕ) (x : X) → slice_get xs i ≡ Som
 within [] i x e = none_some e
 within (y ∷ ys) zero x e = omega arith
 within (y ∷ ys) (suc i) x e = let h : i < length ys = within ys i x e in omega arith
-
-some_within : {X : Type 0} (xs : List X) (i : ℕ) → i < length xs → (x : X) × (slice_get xs i ≡ Some x)
-some_within [] i h = absurd (omega arith)
-some_within (x ∷ xs) zero h = (x, refl)
-some_within (x ∷ xs) (suc i) h = some_within xs i (omega arith)
-
-so_none : (b : Bool) (rule : Rule) → b ≡ true → where_so b rule ≡ None → ⊥
-so_none true rule e h = none_some (sym h)
-so_none false rule e h = cc
 
 equal : (n : ℕ) → (n == n) ≡ true
 equal n = eq-eqb n n refl

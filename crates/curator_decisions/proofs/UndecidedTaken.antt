@@ -1,12 +1,11 @@
 -- The marks of the layer that no decisions make are those of the items that are in, under new IDs.
-use Rattle.std.proofs.Common.{◌≡◌, ℕ, zero, suc, ◌+◌, ◌<◌, ◌≤◌, ◌⊎◌, ◌||◌, Bool, true, false, cond, List, [], ◌∷◌, ◌++◌, map, length, slice_get, refl, sym, ◌∙◌, ap, subst, inl, inr, Option, Some, None, is_some, arith}
+use Rattle.std.proofs.Common.{◌≡◌, ℕ, ◌<◌, ◌≤◌, true, false, List, [], ◌∷◌, ◌++◌, map, length, slice_get, refl, sym, ◌∙◌, ap, subst, inl, inr, Option, Some, None, is_some, arith}
 use Rattle.std.proofs.lemmas.Option.{same_Some}
 use Rattle.std.specs.Option.{option_map, option_and_then}
-use Rattle.std.specs.List.{filter_map, list_any, cons_option}
-use Rattle.std.specs.Ordering.{nat_cmp, eq_by_cmp, is_eq}
-use Rattle.std.specs.Cmp.{nat_cmp_total, tied_itself}
+use Rattle.std.specs.List.{filter_map}
+use Rattle.std.specs.Ordering.{nat_cmp}
 use Rattle.std.specs.FinMap as finite
-use Rattle.std.specs.FinMap.{contains_key-keys, get-empty}
+use Rattle.std.specs.FinMap.{get-empty}
 use Rattle.mark_base.specs.declared.ann_id.AnnId.{AnnId}
 use Rattle.mark_base.specs.declared.ann_id.Kind.{Kind}
 use Rattle.mark_base.specs.declared.ann_id.Kind.TheVariants as letter
@@ -18,78 +17,20 @@ use Rattle.layer_model.specs.declared.mark.Mark.TheVariants as marked
 use Rattle.layer_model.specs.Annotations.{Annotations, no_marks}
 use Rattle.layer_model.specs.Classes.{rank}
 use Rattle.layer_model.specs.Coherent.{IsCoherent}
-use Rattle.layer_model.specs.Layers.{IsLayer, is_of_kind, mark_at, mark_of, numbers, with_classes}
-use Rattle.layer_core.specs.Ids.{ids_of_letter}
+use Rattle.layer_model.specs.Layers.{IsLayer, is_of_kind, mark_at, mark_of, with_classes}
 use Rattle.layer_core.specs.PairRules.{counted_with}
 use Rattle.content_keys.specs.Nodes.{IsIn}
 use Rattle.unanimous_merge.specs.Items.{Held}
 use Rattle.unanimous_merge.specs.Readings.{Reading, reading_of, readings}
 use Rattle.unanimous_merge.proofs.ListLemmas.{length_map}
-use Rattle.curator_decisions.specs.Curated.{Numbered, count_of_letter, curated_letter, numbered_behind, rename_in, renamed, taken}
+use Rattle.curator_decisions.specs.Curated.{Numbered, count_of_letter, curated_letter, rename_in, renamed, taken}
 use Rattle.curator_decisions.proofs.UndecidedCounts.{few_items, few_keys, length_append}
-use Rattle.curator_decisions.proofs.UndecidedItems.{IsChosen, LowerHeld, chosen, chosen_rise, layers}
-use Rattle.curator_decisions.proofs.UndecidedLists.{Pairs}
+use Rattle.curator_decisions.proofs.UndecidedItems.{chosen, chosen_rise, layers}
+use Rattle.curator_decisions.proofs.UndecidedLists.{Pairs, given_in, in_given, pairs_both, pairs_given, two_of}
 use Rattle.curator_decisions.proofs.UndecidedMarks.{Came, Lower, built, put_by, put_stands, with_classes_same}
 use Rattle.curator_decisions.proofs.UndecidedNumbers.{LowerNew, letter_kept, number_within, numbered_pairs, numbers_rise}
-use Rattle.curator_decisions.proofs.UndecidedPart.{Origin, none_some}
+use Rattle.curator_decisions.proofs.UndecidedPart.{Origin, has_key, none_some}
 use Rattle.curator_decisions.proofs.UndecidedRenames.{HasNode, In, IsWhole, chosen_one, in_node, new, new_in, new_one, ns}
-
--- ---- lists that are mapped where something is given
-
-pub in_given : {X Y : Type 0} (f : X → Option Y) (xs : List X) (y : Y) → IsIn y (filter_map f xs) → (x : X) × (IsIn x xs × (f x ≡ Some y))
-in_given f [] y k = absurd k
-in_given {X} {Y} f (x ∷ xs) y k =
-    elim (f x) as (λ o. f x ≡ o → IsIn y (cons_option o (filter_map f xs)) → (z : X) × (((z ≡ x) ⊎ IsIn z xs) × (f z ≡ Some y))) [
-      | None ↦ λ e m. let r : (z : X) × (IsIn z xs × (f z ≡ Some y)) = in_given f xs y m in (r.0, (inr r.1.0, r.1.1))
-      | Some v ↦ λ e m. elim m as (λ _. (z : X) × (((z ≡ x) ⊎ IsIn z xs) × (f z ≡ Some y))) [
-        | inl same ↦ (x, (inl refl, e ∙ ap Some (sym same)))
-        | inr n ↦ let r : (z : X) × (IsIn z xs × (f z ≡ Some y)) = in_given f xs y n in (r.0, (inr r.1.0, r.1.1))
-      ]
-    ] refl k
-
-pub given_in : {X Y : Type 0} (f : X → Option Y) (xs : List X) (x : X) (y : Y) → IsIn x xs → f x ≡ Some y → IsIn y (filter_map f xs)
-given_in f [] x y k e = absurd k
-given_in {X} {Y} f (z ∷ xs) x y k e = elim k [
-  | inl same ↦
-      let there : f z ≡ Some y = ap f (sym same) ∙ e in
-      let P : Option Y → Type 0 = λ o. IsIn y (cons_option o (filter_map f xs)) in
-      subst P (sym there) (inl refl)
-  | inr m ↦ more (f z) (given_in f xs x y m e)
-]
-  where
-    more : (o : Option Y) → IsIn y (filter_map f xs) → IsIn y (cons_option o (filter_map f xs))
-    more None h = h
-    more (Some v) h = inr h
-
-pub pairs_given : {X Y : Type 0} (R : X → X → Type 0) (S : Y → Y → Type 0) (f : X → Option Y) (xs : List X) → ((a b : X) (y z : Y) → IsIn a xs → IsIn b xs → f a ≡ Some y → f b ≡ Some z → R a b → S y z) → Pairs R xs → Pairs S (filter_map f xs)
-pairs_given R S f [] h up = tt
-pairs_given {X} {Y} R S f (x ∷ xs) h up =
-    elim (f x) as (λ o. f x ≡ o → Pairs S (cons_option o (filter_map f xs))) [
-      | None ↦ λ e. pairs_given R S f xs (λ a b y z i j. h a b y z (inr i) (inr j)) up.1
-      | Some v ↦ λ e. (
-        λ z k.
-            let r : (b : X) × (IsIn b xs × (f b ≡ Some z)) = in_given f xs z k in
-            h x r.0 v z (inl refl) (inr r.1.0) e r.1.1 (up.0 r.0 r.1.0),
-        pairs_given R S f xs (λ a b y z i j. h a b y z (inr i) (inr j)) up.1,
-      )
-    ] refl
-
-pub two_of : {X : Type 0} (R : X → X → Type 0) (xs : List X) → Pairs R xs → (a b : X) → IsIn a xs → IsIn b xs → (a ≡ b) ⊎ (R a b ⊎ R b a)
-two_of R [] up a b i j = absurd i
-two_of {X} R (x ∷ xs) up a b i j = elim i [
-  | inl p ↦ elim j [
-    | inl q ↦ inl (p ∙ sym q)
-    | inr n ↦ inr (inl (subst (λ (z : X). R z b) (sym p) (up.0 b n)))
-  ]
-  | inr m ↦ elim j [
-    | inl q ↦ inr (inr (subst (λ (z : X). R z a) (sym q) (up.0 a m)))
-    | inr n ↦ two_of R xs up.1 a b m n
-  ]
-]
-
-pub pairs_both : {X : Type 0} (R S : X → X → Type 0) (xs : List X) → Pairs R xs → Pairs S xs → Pairs (λ a b. R a b × S a b) xs
-pairs_both R S [] h g = tt
-pairs_both R S (x ∷ xs) h g = (λ y k. (h.0 y k, g.0 y k), pairs_both R S xs h.1 g.1)
 
 -- ---- letters of marks
 
@@ -136,21 +77,8 @@ no_legacy letter.Note e = cc
 
 -- ---- numbers of a map
 
-or_true : (b : Bool) → (b || true) ≡ true
-or_true true = refl
-or_true false = refl
-
-in_any : (q : ℕ) (xs : List ℕ) → IsIn q xs → list_any (eq_by_cmp nat_cmp q) xs ≡ true
-in_any q [] h = absurd h
-in_any q (n ∷ xs) h = elim h [
-  | inl e ↦
-      let tied : eq_by_cmp nat_cmp q n ≡ true = ap (eq_by_cmp nat_cmp q) (sym e) ∙ ap is_eq (tied_itself nat_cmp_total q) in
-      ap (λ b. b || list_any (eq_by_cmp nat_cmp q) xs) tied
-  | inr k ↦ ap (λ b. eq_by_cmp nat_cmp q n || b) (in_any q xs k) ∙ or_true _
-]
-
 got : {V : Type 0} (m : finite.FinMap nat_cmp V) (wrap : V → Mark) (n : ℕ) → IsIn n (finite.keys m) → (mark : Mark) × (option_map wrap (finite.get m n) ≡ Some mark)
-got {V} m wrap n k = by (finite.get m n) (contains_key-keys m n ∙ in_any n (finite.keys m) k)
+got {V} m wrap n k = by (finite.get m n) (has_key m n k)
   where
     by : (o : Option V) → is_some o ≡ true → (mark : Mark) × (option_map wrap o ≡ Some mark)
     by None e = absurd (let f : false ≡ true = e in cc)
