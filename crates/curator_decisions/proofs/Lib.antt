@@ -11,3 +11,4 @@ pub mod UndecidedRenames
 pub mod UndecidedTaken
 pub mod UndecidedClasses
 pub mod UndecidedObeys
+pub mod UndecidedFaults

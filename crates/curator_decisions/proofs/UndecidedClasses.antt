@@ -92,7 +92,7 @@ in_rank id (x ∷ xs) k = elim k [
   | inr m ↦ ap (λ b. (rank x == rank id) || b) (in_rank id xs m) ∙ or_true _
 ]
 
-none_any : {X : Type 0} (p : X → Bool) (xs : List X) → ((x : X) → IsIn x xs → p x ≡ false) → list_any p xs ≡ false
+pub none_any : {X : Type 0} (p : X → Bool) (xs : List X) → ((x : X) → IsIn x xs → p x ≡ false) → list_any p xs ≡ false
 none_any p [] h = refl
 none_any p (x ∷ xs) h = (λ i. h x (inl refl) i || none_any p xs (λ y k. h y (inr k)) i)
 

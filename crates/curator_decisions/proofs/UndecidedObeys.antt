@@ -223,7 +223,7 @@ module _ (first : Annotations) (rows : List (List ℕ × Annotations)) (is : IsL
 abbrev pub Coheres : Type 0
 Coheres = (conf : Configuration) (characters : ℕ) (layer : Annotations) → IsLayer layer → IsWellFormed conf characters layer → IsCoherent layer
 
-all_in : {X : Type 0} (P : X → Type 0) (xs : List X) → All P xs → (x : X) → IsIn x xs → P x
+pub all_in : {X : Type 0} (P : X → Type 0) (xs : List X) → All P xs → (x : X) → IsIn x xs → P x
 all_in P [] h x k = absurd k
 all_in P (y ∷ ys) h x k = elim k [ inl e ↦ subst P (sym e) (all_head P y ys h) | inr m ↦ all_in P ys (all_tail P y ys h) x m ]
 

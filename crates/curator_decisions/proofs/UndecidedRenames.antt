@@ -170,6 +170,13 @@ each_too first whole old s e y n (row ∷ rows) all h =
     and_both (stands (content_of first old) (contents (reading_of row.1))) (in_each (readings rows) (content_of first old)) (stands (content_of first y) (contents (reading_of row.1))) (in_each (readings rows) (content_of first y)) h
     (stands_too first whole old s e y n row.1 w.0 w.1) (each_too first whole old s e y n rows (λ r k. all r (inr k)))
 
+-- what an annotation names has a content that stands in each layer where its own does
+pub names_each : (first : Annotations) → IsLayer first → IsCoherent first → (rows : List (List ℕ × Annotations)) → ((row : List ℕ × Annotations) → IsIn row rows → IsWhole row) → (old : AnnId) (s : Node AnnId) → node_of first old ≡ Some s
+    → in_each (layers first (readings rows)) (content_of first old) ≡ true → (y : AnnId) → Names y s → in_each (layers first (readings rows)) (content_of first y) ≡ true
+names_each first is whole rows all old s e each y n =
+    and_both (stands (content_of first old) (contents (reading_of first))) (in_each (readings rows) (content_of first old)) (stands (content_of first y) (contents (reading_of first))) (in_each (readings rows) (content_of first y)) each
+    (stands_too first whole old s e y n first is whole) (each_too first whole old s e y n rows all)
+
 -- ---- new IDs
 
 new_found : (xs : List Numbered) → Pairs (λ (a b : Numbered). Differ a.held b.held) xs → (one : Numbered) → IsIn one xs → new_id xs one.held.content ≡ Some one.id
@@ -231,9 +238,7 @@ module _ (first : Annotations) (rows : List (List ℕ × Annotations)) (is : IsL
       let listed : IsIn y (ids_of first) = some_node first 18 y (named_built first whole old m.node node y n) in
       let each : in_each (layers first (readings rows)) (content_of first old) ≡ true =
       ap (in_each (layers first (readings rows))) (ap (content_of first) (sym i.1.1) ∙ sym (chosen_one i.0 i.1.0).content) ∙ (chosen_one i.0 i.1.0).each in
-      let each_y : in_each (layers first (readings rows)) (content_of first y) ≡ true =
-      and_both (stands (content_of first old) (contents (reading_of first))) (in_each (readings rows) (content_of first old)) (stands (content_of first y) (contents (reading_of first))) (in_each (readings rows) (content_of first y)) each
-      (stands_too first whole old m.node node y n first is whole) (each_too first whole old m.node node y n rows all) in
+      let each_y : in_each (layers first (readings rows)) (content_of first y) ≡ true = names_each first is whole rows all old m.node node each y n in
       let h : (h : Held) × (IsIn h (chosen first (readings rows)) × (h.content ≡ content_of first y)) = chosen_have first (readings rows) y listed each_y in
       let one : (one : Numbered) × (IsIn one ns × (one.held ≡ h.0)) = numbered_all [] (chosen first (readings rows)) h.0 h.1.0 in
       is_item y (ids_have first is y listed) known one.0 one.1.0 (ap (λ (z : Held). z.content) one.1.1 ∙ h.1.1)
