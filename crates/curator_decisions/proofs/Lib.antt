@@ -12,3 +12,4 @@ pub mod UndecidedTaken
 pub mod UndecidedClasses
 pub mod UndecidedObeys
 pub mod UndecidedFaults
+pub mod DecidedVerdicts

@@ -4,12 +4,14 @@
 //! are in, numbered anew, and the unanimous classes whose members are all in.
 #![tactic(auto)]
 
+mod decided_laws;
 mod decision_fault;
 mod decisions;
 mod laws;
 mod verdict;
 mod worked_rows;
 
+pub use crate::decided_laws::{decisions_are_a_map, verdicts_are_set};
 pub use crate::decision_fault::DecisionFault;
 pub use crate::decisions::Decisions;
 pub use crate::laws::{undecided_layers_are_accepted, undecided_layers_obey};
