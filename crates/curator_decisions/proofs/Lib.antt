@@ -13,3 +13,4 @@ pub mod UndecidedClasses
 pub mod UndecidedObeys
 pub mod UndecidedFaults
 pub mod DecidedVerdicts
+pub mod DecidedSteps

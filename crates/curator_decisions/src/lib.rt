@@ -11,7 +11,7 @@ mod laws;
 mod verdict;
 mod worked_rows;
 
-pub use crate::decided_laws::{decisions_are_a_map, verdicts_are_set};
+pub use crate::decided_laws::{decisions_are_a_map, decisions_stay_accepted, verdicts_are_set};
 pub use crate::decision_fault::DecisionFault;
 pub use crate::decisions::Decisions;
 pub use crate::laws::{undecided_layers_are_accepted, undecided_layers_obey};
