@@ -4,3 +4,5 @@ pub mod Placing
 pub mod Naming
 pub mod Deciding
 pub mod DecisionFaults
+pub mod Undecided
+pub mod DecidedLaws
