@@ -1,0 +1,2 @@
+mod PeopleLemmas
+mod StoredLemmas
