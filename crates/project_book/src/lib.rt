@@ -1,49 +1,52 @@
-//! A project of several annotators and curators: its people, and what each request does to it.
+//! A project as a program keeps it, and how each request to it is judged.
 //!
-//! The main type is [`Roster`], the people of a project in the order of their names:
+//! The main type is [`BookState`], a project at a place of its history. A request is first tested, then answered:
 //!
 //! ```text
-//! let ann = Person { name: Slug::new(alloc, "ann")?, curator: false };
-//! let cur = Person { name: Slug::new(alloc, "cur")?, curator: true };
-//! let roster = Roster::of(alloc, vec![in alloc; cur, ann]?)?;
-//! roster.person(0); // ann
+//! let refusal = state.refuses_caller(&caller, &request); // who may ask
+//! let refusal = state.refuses_checkout(&caller, &doc);   // the tests of a checkout, in their order
+//! let accepted = state.accept_checkout(alloc, &caller, &doc)?; // the answer and the change
 //! ```
 //!
-//! A project is one state machine. `specs/Machine.antt` defines what a request of a caller is answered and
-//! what it makes happen in a state, `specs/History.antt` the state after what happened in turn,
-//! `specs/Legal.antt` which histories there can be and what the state behind each keeps, and
-//! `specs/Entries.antt` the entries by which a journal keeps a history.
+//! What each of these must be is defined in `project_machine`, whose items this crate passes on. `specs/Values.antt`
+//! leads from what is asked ([`Request`]), answered ([`Reply`]) and happens ([`Change`]) to the plain values that
+//! those definitions speak of.
 #![tactic(auto)]
 
-mod book_refusal;
-mod command_bytes;
-mod command_cursor;
-mod command_fields;
-mod command_laws;
-mod command_rows;
-mod doc_line;
-mod laws;
-mod load_command;
-mod plain_commands;
-mod read_commands;
-mod roster;
-mod roster_fault;
-mod worked_steps;
-
-pub use crate::book_refusal::{BookRefusal, Policy};
-pub use crate::command_laws::{
-    accepted_scripts_can_be_written, loads_are_read_again, scripts_are_told_apart,
-    scripts_without_loads, typed_scripts_are_read_again,
-};
-pub use crate::command_rows::{examples_of_command_bytes, examples_of_command_reading};
-pub use crate::doc_line::DocLine;
-pub use crate::laws::{
+pub use project_machine::{
+    BookRefusal, DocLine, Policy, Roster, RosterFault, Scripts, accepted_scripts_can_be_written,
     annotators_are_shown_their_own, annotators_change_their_own_rows, changes_tell_their_requests,
-    committed_layers_obey, histories_go_on, openings_can_be_repeated, places_stand,
-    rosters_can_found, snapshots_stay, states_can_be_restored, views_can_be_curated,
+    committed_layers_obey, examples_of_broken_layers, examples_of_command_bytes,
+    examples_of_command_reading, examples_of_histories, examples_of_snapshots, examples_of_steps,
+    histories_go_on, loads_are_read_again, openings_can_be_repeated, places_stand, read_scripts,
+    rosters_can_found, scripts_are_told_apart, scripts_without_loads, snapshots_stay,
+    states_can_be_restored, typed_scripts_are_read_again, views_can_be_curated, write_scripts,
 };
-pub use crate::roster::Roster;
-pub use crate::roster_fault::RosterFault;
-pub use crate::worked_steps::{
-    examples_of_broken_layers, examples_of_histories, examples_of_snapshots, examples_of_steps,
-};
+
+mod accept;
+mod accepted;
+mod change;
+mod doc_list;
+mod document;
+mod pair_list;
+mod parts;
+mod people;
+mod policies;
+mod refusals;
+mod reply;
+mod request;
+mod row;
+mod state;
+mod stored_snapshot;
+mod texts;
+
+pub use crate::accepted::Accepted;
+pub use crate::change::Change;
+pub use crate::doc_list::DocList;
+pub use crate::document::StoredDocument;
+pub use crate::pair_list::PairList;
+pub use crate::reply::{Out, Reply, SnapshotView};
+pub use crate::request::Request;
+pub use crate::row::StoredRow;
+pub use crate::state::BookState;
+pub use crate::stored_snapshot::StoredSnapshot;

@@ -1,8 +1,0 @@
-use Rattle.project_book.proofs.OrderLemmas.{founding_is, roster_is}
-use Rattle.project_book.proofs.laws.rosters_can_found.Goals as goal
-
-pub returns-clause-founding : goal.returns-clause-founding
-returns-clause-founding c = roster_is
-
-pub returns-clause-roster : goal.returns-clause-roster
-returns-clause-roster c = founding_is

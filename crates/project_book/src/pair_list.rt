@@ -1,0 +1,36 @@
+//! The agreement of each two annotators.
+ghost use Rattle.std.specs.Prelude.{◌≡◌};
+
+use kappa_alpha::PairLine;
+use std::marker::Model;
+
+/// The lines of each two annotators, in the order of their names.
+#[derive(Debug, Drop)]
+pub struct PairList {
+    items: Vec<PairLine>,
+}
+
+impl Model for PairList {
+    ghost use Rattle.std.specs.Prelude.{List};
+    ghost use Rattle.kappa_alpha.specs.declared.figures.PairLine.{PairLine};
+
+    ghost Value = { List PairLine };
+
+    ghost view = { λ list. list.items.items };
+}
+
+impl PairList {
+    /// The lines of a vector, which is not copied.
+    pub fn from_vec(items: Vec<PairLine>) -> Self
+        ensures { result ≡ items.items }
+    {
+        PairList { items }
+    }
+
+    /// The lines in their order.
+    pub fn items(&self) -> &[PairLine]
+        ensures { result.now ≡ self.now }
+    {
+        self.items.as_slice()
+    }
+}

@@ -1,0 +1,17 @@
+pub mod People
+pub mod ProjectState
+pub mod Requests
+pub mod Tables
+pub mod CommandBytes
+pub mod CommandReading
+pub mod Entries
+pub mod Machine
+pub mod History
+pub mod Typed
+pub mod CommandFields
+pub mod Legal
+pub mod Own
+pub mod AskedFor
+pub mod Asking
+pub mod Opening
+pub mod WorkedSteps
