@@ -1,6 +1,6 @@
 use Rattle.overlap_rules.specs.Buckets.{held_in}
 use Rattle.overlap_rules.proofs.NearLemmas.{Looks}
-use Rattle.overlap_rules.proofs.span_index.lowest_near.Given as goal
+use Rattle.overlap_rules.proofs.span_index.lowest_between.Given as goal
 
 abbrev pub invariant-loop-number : goal.invariant-loop-number
 invariant-loop-number g l =
