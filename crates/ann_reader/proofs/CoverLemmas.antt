@@ -10,7 +10,7 @@ use Rattle.layer_model.specs.declared.class.Class.{Class}
 use Rattle.layer_model.specs.Classes.{rank, has_rank, is_among, ascending, comes_before, insert_class, shares, sharing, apart, joined_class, joined}
 use Rattle.layer_model.proofs.IdSets.{has_rank-ascending}
 use Rattle.ann_reader.specs.Lines.{Line}
-use Rattle.ann_reader.specs.Forms.{form_of}
+use Rattle.ann_reader.specs.LineForms.{form_of}
 use Rattle.ann_reader.specs.Marks.{Said, said_of}
 use Rattle.ann_reader.specs.AnnFiles.{said_in, joined_too, classes_of}
 

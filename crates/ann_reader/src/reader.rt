@@ -9,18 +9,18 @@ ghost use Rattle.ann_reader.specs.AnnFaults.{brings, brings_some, first_text_fau
 ghost use Rattle.ann_reader.specs.AnnFiles.{IsAnn};
 ghost use Rattle.ann_reader.specs.LineShows.{seen_line};
 ghost use Rattle.ann_reader.specs.FormShows.{seen_form, seen_said};
-ghost use Rattle.ann_reader.specs.Forms.{form_of};
+ghost use Rattle.ann_reader.specs.LineForms.{form_of};
 ghost use Rattle.ann_reader.specs.FaultShows.{seen_fault};
 ghost use Rattle.ann_reader.specs.PlainTexts.{IsPlain};
 ghost use Rattle.ann_reader.specs.ReadFaults.{IsFault, Tells};
 
 use crate::declared_names::line_types;
-use crate::form::{Form, form_of};
 use crate::known_lines::KnownLines;
 use crate::layer_lines::add_line;
 use crate::line::{Line, lines};
 use crate::line_counts::{LineCounts, count_line, count_of};
 use crate::line_fault::line_fault;
+use crate::line_form::{Form, form_of};
 use crate::marks::{Said, said_of};
 use crate::texts::{plain_text, text_differs};
 use crate::word::first_byte;

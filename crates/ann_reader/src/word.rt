@@ -3,7 +3,7 @@ ghost use Rattle.std.specs.Prelude.{◌≡◌, ◌≤◌, ◌<◌, ◌-◌, ◌=
 ghost use Rattle.std.specs.List.{slice_split, prefix_len};
 ghost use Rattle.mark_base.specs.AnnIds.{number_read};
 ghost use Rattle.ann_reader.specs.Words.{is_space, is_padded, words_of, behind_word, frag_of, frag_read, all_of};
-ghost use Rattle.ann_reader.specs.Forms.{frags_read};
+ghost use Rattle.ann_reader.specs.LineForms.{frags_read};
 
 use crate::line::{back, behind};
 use mark_base::{Frag, Memory, number_read};

@@ -22,7 +22,7 @@ use Rattle.layer_model.specs.declared.rule.Rule.{Rule}
 use Rattle.ann_reader.specs.Lines.{is_blank}
 use Rattle.mark_base.specs.ReadIds.{id_read}
 use Rattle.ann_reader.specs.Words.{all_of}
-use Rattle.ann_reader.specs.Forms.{Form, ClassForm, form_of, head_field}
+use Rattle.ann_reader.specs.LineForms.{Form, ClassForm, form_of, head_field}
 use Rattle.ann_reader.specs.LineFaults.{is_formless}
 use Rattle.ann_reader.proofs.FormFacts.{head_same}
 use Rattle.ann_reader.specs.References.{own_id}

@@ -34,12 +34,12 @@ use Rattle.layer_model.specs.declared.flaw.FlawPlace.TheVariants as at
 use Rattle.layer_model.specs.Annotations.{Annotations}
 use Rattle.layer_model.specs.Layers.{IsLayer}
 use Rattle.mark_base.specs.ReadIds.{id_at}
-use Rattle.layer_core.specs.Ids.{ids_of}
-use Rattle.layer_core.specs.Places.{first_place, places}
+use Rattle.layer_core.specs.LayerIds.{ids_of}
+use Rattle.layer_core.specs.FlawPlaces.{first_place, places}
 use Rattle.layer_core.specs.SpanRules.{are_fragments}
 use Rattle.layer_core.specs.PairRules.{overlap_refused, refused_overlap}
 use Rattle.layer_core.specs.WellFormed.{at_overlap_refused}
-use Rattle.layer_core.specs.Walk.{HasGoodSpans, flaw_at, refuses}
+use Rattle.layer_core.specs.LowestFlaw.{HasGoodSpans, flaw_at, refuses}
 use Rattle.layer_core.proofs.FlawLemmas.{or-None}
 use Rattle.layer_core.proofs.PassLemmas.{only_spans}
 use Rattle.layer_core.proofs.PlaceLemmas.{all_entries, along, each_found, entries_found}

@@ -19,7 +19,7 @@ use Rattle.layer_model.specs.declared.rule.Rule.TheVariants.{TooDeep, SameSpan, 
 use Rattle.layer_model.specs.Span.{same_fragments}
 use Rattle.layer_model.specs.Annotations.{Annotations}
 use Rattle.layer_model.specs.Layers.{mark_at}
-use Rattle.layer_core.specs.Ids.{id_place, ids_of, ids_of_letter}
+use Rattle.layer_core.specs.LayerIds.{id_place, ids_of, ids_of_letter}
 use Rattle.layer_core.specs.Targets.{type_of}
 use Rattle.layer_core.specs.SpanRules.{is_bad_text, is_bad_entry, is_bad_store}
 use Rattle.layer_core.specs.Rules.{where_so}

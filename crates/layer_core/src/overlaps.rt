@@ -2,9 +2,9 @@
 ghost use Rattle.std.specs.Prelude.{◌≡◌, ◌<◌, ◌≤◌, IfOk, None, IsTrue, length};
 ghost use Rattle.overlap_rules.specs.Overlaps.{are_ascending, reach};
 ghost use Rattle.overlap_rules.specs.TouchingSpans.{IsFirstTouching};
-ghost use Rattle.layer_core.specs.Places.{first_place, places};
+ghost use Rattle.layer_core.specs.FlawPlaces.{first_place, places};
 ghost use Rattle.layer_core.specs.WellFormed.{at_overlap_refused};
-ghost use Rattle.layer_core.specs.Walk.{HasGoodSpans, refuses};
+ghost use Rattle.layer_core.specs.LowestFlaw.{HasGoodSpans, refuses};
 
 use crate::targets::id_at;
 use annotation_conf::Conf;

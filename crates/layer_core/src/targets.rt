@@ -2,7 +2,7 @@
 ghost use Rattle.std.specs.Prelude.{◌≡◌};
 ghost use Rattle.layer_model.specs.Classes.{letter_place};
 ghost use Rattle.mark_base.specs.ReadIds.{id_at};
-ghost use Rattle.layer_core.specs.Ids.{id_place};
+ghost use Rattle.layer_core.specs.LayerIds.{id_place};
 ghost use Rattle.layer_core.specs.PairRules.{is_id};
 ghost use Rattle.layer_core.specs.Targets.{is_argument, is_attribute_target, is_entity_type, is_event_type, is_member, is_normal_target, is_note_target, is_trigger, target_of, type_of};
 
