@@ -2,7 +2,10 @@
 #![tactic(auto)]
 
 mod ann_fault;
+mod attribute_line;
+mod class_line;
 mod declared_names;
+mod event_line;
 mod id_letters;
 mod known_lines;
 mod laws;
@@ -12,9 +15,14 @@ mod line_counts;
 mod line_fault;
 mod line_form;
 mod marks;
+mod normalization_line;
+mod note_line;
+mod pairs;
 mod reader;
 mod references;
+mod relation_line;
 mod roles;
+mod text_line;
 mod texts;
 mod word;
 mod worked_rows;
