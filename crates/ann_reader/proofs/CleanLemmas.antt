@@ -4,7 +4,7 @@ use Rattle.std.specs.Option.{is_none, is_some, option_map_or, option_or, option_
 use Rattle.std.specs.List.{list_any, find, filter_map, cons_option}
 use Rattle.std.proofs.lemmas.Bool.{or_parts, not-false}
 use Rattle.mark_base.specs.declared.ann_id.AnnId.{AnnId}
-use Rattle.mark_base.specs.declared.places.TypeId.{TypeId}
+use Rattle.mark_base.specs.declared.table_places.TypeId.{TypeId}
 use Rattle.mark_base.specs.declared.arguments.Arg.{Arg}
 use Rattle.mark_base.specs.Names.{name_fault}
 use Rattle.annotation_conf.specs.Configurations.{Configuration}

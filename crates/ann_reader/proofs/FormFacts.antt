@@ -19,7 +19,7 @@ use Rattle.ann_reader.specs.LineForms.{Pair, Form, BadForm, TextForm, EventForm,
 use Rattle.ann_reader.specs.FormShows.{NamesSome}
 use Rattle.ann_reader.specs.References.{own_id}
 use Rattle.ann_reader.specs.LineFaults.{is_formless}
-use Rattle.mark_base.specs.declared.places.TypeId.{TypeId}
+use Rattle.mark_base.specs.declared.table_places.TypeId.{TypeId}
 use Rattle.mark_base.specs.declared.arguments.Arg.{Arg}
 use Rattle.mark_base.specs.Names.{name_fault}
 use Rattle.layer_model.specs.declared.mark.Mark.TheVariants as marked

@@ -9,7 +9,7 @@ use Rattle.std.specs.declared.cmp.Ordering.TheVariants.{Less, Equal, Greater}
 use Rattle.std.proofs.lemmas.Bool.{eqb-true, false≢true}
 use Rattle.std.proofs.lemmas.List.Sums.{fold_push}
 use Rattle.mark_base.specs.declared.ann_id.AnnId.{AnnId}
-use Rattle.layer_core.specs.LayerIds.{id_place}
+use Rattle.layer_model.specs.LayerIds.{id_place}
 use Rattle.ann_reader.specs.Lines.{Line}
 use Rattle.ann_reader.specs.LineForms.{head_field}
 use Rattle.mark_base.specs.ReadIds.{id_read}

@@ -1,7 +1,7 @@
 -- What a word names in a configuration; a word that is no name names nothing.
 use Rattle.std.specs.Prelude.{ℕ, List, Option, Some, None, is_none, option_and_then, if◌then◌else◌}
 use Rattle.std.specs.Option.{option_map_or}
-use Rattle.mark_base.specs.declared.places.TypeId.{TypeId}
+use Rattle.mark_base.specs.declared.table_places.TypeId.{TypeId}
 use Rattle.mark_base.specs.Names.{name_fault}
 use Rattle.type_hierarchy.specs.TypeTrees.{type_named}
 use Rattle.annotation_conf.specs.Configurations.{Configuration}

@@ -14,7 +14,7 @@ use Rattle.mark_base.specs.declared.ann_id.Kind.{Kind}
 use Rattle.mark_base.specs.declared.ann_id.Kind.TheVariants as letter
 use Rattle.mark_base.specs.declared.fragments.Frag.{Frag}
 use Rattle.mark_base.specs.declared.arguments.Arg.{Arg}
-use Rattle.mark_base.specs.declared.places.TypeId.{TypeId}
+use Rattle.mark_base.specs.declared.table_places.TypeId.{TypeId}
 use Rattle.mark_base.specs.declared.name.NameFault.{NameFault}
 use Rattle.mark_base.specs.AnnIds.{letter_of, spelling_of}
 use Rattle.char_documents.specs.Texts.{all_lie_in, lies_in, reference_text}

@@ -6,7 +6,7 @@ use Rattle.std.specs.Str.{NonePass, all_ascii_digits}
 use Rattle.std.specs.List.{All, AllByRecursion, position_from}
 use Rattle.std.proofs.lemmas.Bool.{ne_eqb}
 use Rattle.mark_base.specs.declared.arguments.Arg.{Arg}
-use Rattle.mark_base.specs.declared.places.TypeId.{TypeId}
+use Rattle.mark_base.specs.declared.table_places.TypeId.{TypeId}
 use Rattle.mark_base.specs.AnnIds.{is_canonical}
 use Rattle.annotation_conf.specs.Configurations.{Configuration}
 use Rattle.annotation_conf.specs.declared.role.Role.{Role}

@@ -12,7 +12,7 @@ use Rattle.layer_model.specs.Annotations.{Annotations}
 use Rattle.layer_model.specs.Classes.{letter_place, is_among, ascending}
 use Rattle.layer_model.specs.Layers.{mark_at, numbers}
 use Rattle.mark_base.specs.ReadIds.{id_at}
-use Rattle.layer_core.specs.LayerIds.{id_place, ids_of, ids_of_letter, letters}
+use Rattle.layer_model.specs.LayerIds.{id_place, ids_of, ids_of_letter, letters}
 use Rattle.layer_core.specs.Rules.{named_by}
 use Rattle.layer_core.specs.PairRules.{is_id}
 use Rattle.layer_core.specs.MadeLayers.{falls, falls_by}

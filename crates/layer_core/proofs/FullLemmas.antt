@@ -19,7 +19,7 @@ use Rattle.layer_model.specs.Annotations.{Annotations}
 use Rattle.layer_model.specs.Layers.{IsLayer, mark_of, numbers}
 use Rattle.layer_model.specs.Numbers.{NumbersFit}
 use Rattle.mark_base.specs.ReadIds.{id_at}
-use Rattle.layer_core.specs.LayerIds.{id_place, ids_of_letter}
+use Rattle.layer_model.specs.LayerIds.{id_place, ids_of_letter}
 use Rattle.layer_core.specs.FlawPlaces.{first_place, places}
 use Rattle.layer_core.specs.Rules.{where_so}
 use Rattle.layer_core.specs.PairRules.{is_id, counted_letter, counted_with, layer_full, classes_full}

@@ -24,7 +24,7 @@ use Rattle.layer_model.specs.Classes.{letter_place, rank}
 use Rattle.layer_model.specs.Layers.{mark_at, mark_of, numbers}
 use Rattle.layer_model.specs.Numbers.{NumbersFit}
 use Rattle.mark_base.specs.ReadIds.{id_at}
-use Rattle.layer_core.specs.LayerIds.{ids_of, ids_of_letter}
+use Rattle.layer_model.specs.LayerIds.{ids_of, ids_of_letter}
 use Rattle.layer_core.specs.LowestFlaw.{first_among, flaw_at}
 use Rattle.layer_core.specs.Repeats.{first_with, keyed, repeat_after, same_numbers}
 use Rattle.layer_core.specs.declared.repeats.Repeat.{Repeat}

@@ -11,7 +11,7 @@ use Rattle.layer_model.specs.declared.rule.Rule.TheVariants.{SameRelation}
 use Rattle.layer_model.specs.Annotations.{Annotations}
 use Rattle.layer_model.specs.Layers.{IsLayer}
 use Rattle.layer_model.specs.Classes.{rank}
-use Rattle.layer_core.specs.LayerIds.{ids_of}
+use Rattle.layer_model.specs.LayerIds.{ids_of}
 use Rattle.layer_core.specs.FlawPlaces.{first_place, places}
 use Rattle.layer_core.specs.PairRules.{same_relation, same_relations}
 use Rattle.layer_core.specs.WellFormed.{at_same_relation}

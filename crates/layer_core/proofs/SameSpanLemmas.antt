@@ -13,7 +13,7 @@ use Rattle.layer_model.specs.declared.rule.Rule.TheVariants.{SameSpan}
 use Rattle.layer_model.specs.Annotations.{Annotations}
 use Rattle.layer_model.specs.Layers.{IsLayer}
 use Rattle.layer_model.specs.Span.{same_fragments}
-use Rattle.layer_core.specs.LayerIds.{ids_of}
+use Rattle.layer_model.specs.LayerIds.{ids_of}
 use Rattle.layer_core.specs.FlawPlaces.{first_place, places}
 use Rattle.layer_core.specs.PairRules.{same_span, same_spans}
 use Rattle.layer_core.specs.WellFormed.{at_same_span}

@@ -6,7 +6,7 @@ use Rattle.std.specs.FinMap as finite
 use Rattle.mark_base.specs.declared.ann_id.AnnId.{AnnId}
 use Rattle.mark_base.specs.declared.ann_id.Kind.{Kind}
 use Rattle.mark_base.specs.declared.ann_id.Kind.TheVariants as letter
-use Rattle.mark_base.specs.declared.places.TypeId.{TypeId}
+use Rattle.mark_base.specs.declared.table_places.TypeId.{TypeId}
 use Rattle.mark_base.specs.declared.arguments.Arg.{Arg}
 use Rattle.mark_base.specs.declared.named_args.NamedArg.{NamedArg}
 use Rattle.type_hierarchy.specs.TypeTrees.{type_named}
@@ -20,7 +20,7 @@ use Rattle.layer_model.specs.declared.rule.Rule.TheVariants.{UnknownType, NotFor
 use Rattle.layer_model.specs.declared.rule.RoleAt.TheVariants as role
 use Rattle.layer_model.specs.Annotations.{Annotations}
 use Rattle.layer_model.specs.Layers.{mark_at, greatest}
-use Rattle.layer_core.specs.LayerIds.{ids_of, ids_of_letter}
+use Rattle.layer_model.specs.LayerIds.{ids_of, ids_of_letter}
 use Rattle.layer_core.specs.Targets.{is_event_type, type_of, target_of}
 use Rattle.layer_core.specs.Rules.{where_so, is_barred_type, named_by, Wanted, is_bad_value}
 use Rattle.layer_core.specs.PairRules.{is_id, is_arg, are_bad_members}

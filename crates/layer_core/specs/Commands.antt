@@ -17,7 +17,7 @@ use Rattle.layer_model.specs.Rules.{number_of}
 use Rattle.layer_core.specs.declared.command.Command.{Command}
 use Rattle.layer_core.specs.declared.command.Command.TheVariants as ask
 use Rattle.overlap_rules.specs.Overlaps.{last_end, reach}
-use Rattle.layer_core.specs.LayerIds.{ids_of}
+use Rattle.layer_model.specs.LayerIds.{ids_of}
 use Rattle.layer_core.specs.SpanRules.{are_fragments}
 use Rattle.layer_core.specs.Targets.{is_attribute_target, type_of}
 use Rattle.layer_core.specs.Rules.{where_so, first_missing, first_unwanted, Wanted, argument, trigger, member}

@@ -11,7 +11,7 @@ use Rattle.layer_model.specs.declared.flaw.FlawPlace.{FlawPlace}
 use Rattle.layer_model.specs.declared.flaw.FlawPlace.TheVariants as at
 use Rattle.layer_model.specs.Annotations.{Annotations}
 use Rattle.layer_model.specs.Layers.{mark_at}
-use Rattle.layer_core.specs.LayerIds.{ids_of}
+use Rattle.layer_model.specs.LayerIds.{ids_of}
 
 -- all places: the annotations by their IDs, and then the classes
 abbrev pub places : Annotations → List FlawPlace

@@ -6,7 +6,6 @@ pub mod EventKeys
 pub mod CommandFields
 pub mod Cascade
 pub mod Repeats
-pub mod LayerIds
 pub mod DraftShows
 pub mod PairRules
 pub mod FlawPlaces

@@ -7,7 +7,7 @@ use Rattle.overlap_rules.specs.Overlaps.{reach}
 use Rattle.layer_model.specs.declared.span.Span.{Span}
 use Rattle.layer_core.specs.SpanRules.{are_fragments}
 use Rattle.mark_base.specs.declared.overlap.OvlKind.{OvlKind}
-use Rattle.mark_base.specs.declared.places.TypeId.{TypeId}
+use Rattle.mark_base.specs.declared.table_places.TypeId.{TypeId}
 use Rattle.annotation_conf.specs.Configurations.{Configuration}
 use Rattle.annotation_conf.specs.Lookups.{overlap_allowed}
 use Rattle.layer_model.specs.declared.mark.Mark.{Mark}

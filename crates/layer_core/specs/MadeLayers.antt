@@ -6,7 +6,7 @@ use Rattle.std.specs.FinMap as finite
 use Rattle.mark_base.specs.declared.ann_id.AnnId.{AnnId}
 use Rattle.mark_base.specs.declared.ann_id.Kind.{Kind}
 use Rattle.mark_base.specs.declared.ann_id.Kind.TheVariants as letter
-use Rattle.mark_base.specs.declared.places.AttrId.{AttrId}
+use Rattle.mark_base.specs.declared.table_places.AttrId.{AttrId}
 use Rattle.mark_base.specs.declared.arguments.Arg.{Arg}
 use Rattle.type_hierarchy.specs.TypeTrees.{type_named}
 use Rattle.annotation_conf.specs.Configurations.{Configuration}
@@ -23,7 +23,7 @@ use Rattle.layer_model.specs.Classes.{joined, parted}
 use Rattle.layer_core.specs.declared.command.Command.{Command}
 use Rattle.layer_core.specs.declared.command.Command.TheVariants as ask
 use Rattle.mark_base.specs.ReadIds.{id_at}
-use Rattle.layer_core.specs.LayerIds.{ids_of, ids_of_letter}
+use Rattle.layer_model.specs.LayerIds.{ids_of, ids_of_letter}
 use Rattle.layer_core.specs.Rules.{named_by}
 use Rattle.layer_core.specs.PairRules.{is_id, is_arg}
 use Rattle.layer_core.specs.CommandFields.{event_named, is_span_letter, is_event_letter, is_relation_letter, first_naming, is_in_trigger, args_named, arg_named, Valued, Undeclared, Declared, value_of, attribute_on}

@@ -1,8 +1,10 @@
 //! The rules on texts, stores and entries.
-ghost use Rattle.std.specs.Prelude.{◌≡◌, ◌||◌, ◌==◌, chars, length};
+ghost use Rattle.std.specs.Prelude.{◌≡◌, ◌||◌, ◌==◌, chars};
 ghost use Rattle.std.specs.Char.{is_whitespace};
 ghost use Rattle.std.specs.List.{list_any};
 ghost use Rattle.layer_core.specs.SpanRules.{is_bad_entry, is_bad_store, is_bad_text};
+
+use mark_base::char_count;
 
 /// Whether some byte is a line feed or a carriage return.
 fn breaks_line(text: &[u8]) -> bool
@@ -27,13 +29,6 @@ fn has_whitespace(text: &str) -> bool
 
 /// The characters of the longest text of a note or a normalization.
 const LONGEST_TEXT: usize = 4_000;
-
-/// How many characters a text has.
-fn char_count(text: &str) -> usize
-    ensures { result ≡ length (chars text.now) }
-{
-    text.chars().count()
-}
 
 /// Whether a text of a note or a normalization may not stand: it has more than 4,000 characters, or breaks
 /// its line. Cost: the text.

@@ -6,13 +6,12 @@ ghost use Rattle.layer_model.specs.Layers.{mark_at};
 ghost use Rattle.layer_model.specs.declared.mark.Mark.{Mark};
 ghost use Rattle.layer_core.specs.MadeLayers.{falls};
 ghost use Rattle.layer_core.specs.Cascade.{falls_next, same_ids};
-ghost use Rattle.layer_core.specs.LayerIds.{ids_of};
+ghost use Rattle.layer_model.specs.LayerIds.{ids_of};
 ghost use Rattle.layer_core.specs.PairRules.{is_id};
 ghost use Rattle.layer_core.specs.Rules.{named_by};
 
-use crate::first_annotation::ids_of;
-use crate::targets::{id_at, is_id};
-use layer_model::{Event, IdSet, Layer};
+use crate::targets::is_id;
+use layer_model::{Event, IdSet, Layer, id_at, ids_of};
 use mark_base::{AnnId, Arg, Kind, Memory};
 use std::alloc::Global;
 

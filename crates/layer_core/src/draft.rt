@@ -5,8 +5,7 @@ ghost use Rattle.layer_core.specs.MadeLayers.{Draft as Drafted, free_number, new
 ghost use Rattle.mark_base.specs.ReadIds.{id_at};
 ghost use Rattle.layer_core.specs.DraftShows.{draft_of};
 
-use crate::targets::id_at;
-use layer_model::{Layer, Mark};
+use layer_model::{Layer, Mark, id_at};
 use mark_base::{AnnId, Kind, Memory};
 
 /// A layer that a command makes, the annotation that is new or changed in it, and whether it is new.

@@ -16,8 +16,7 @@ ghost use Rattle.layer_core.specs.WellFormed.{at_too_deep};
 ghost use Rattle.layer_core.specs.LowestFlaw.{first_among};
 ghost use Rattle.layer_core.specs.EventChains.{HoldsChains, is_held};
 
-use crate::targets::id_at;
-use layer_model::{Flaw, FlawPlace, Layer, Rule};
+use layer_model::{Flaw, FlawPlace, Layer, Rule, id_at};
 use mark_base::{AnnId, Arg, Kind, Memory};
 use std::alloc::Global;
 use std::collections::BTreeMap;

@@ -8,14 +8,14 @@ ghost use Rattle.mark_base.specs.declared.ann_id.Kind.{Kind};
 ghost use Rattle.layer_model.specs.declared.mark.Mark.{Mark};
 ghost use Rattle.layer_model.specs.Layers.{is_of_kind, mark_at};
 ghost use Rattle.mark_base.specs.ReadIds.{id_at};
-ghost use Rattle.layer_core.specs.LayerIds.{ids_of, ids_of_letter};
+ghost use Rattle.layer_model.specs.LayerIds.{ids_of, ids_of_letter};
 ghost use Rattle.layer_core.specs.PairRules.{is_id};
 ghost use Rattle.layer_core.specs.Rules.{named_by};
 ghost use Rattle.layer_core.specs.MadeLayers.{event_of, is_note_on, is_reference_to, lowest, relation_of, span_of};
 ghost use Rattle.layer_core.specs.CommandFields.{attribute_on, first_naming, in_use, is_attribute_on, is_in_trigger, trigger_in_use};
 
-use crate::targets::{id_at, is_id};
-use layer_model::{Attribute, Event, Layer, Relation, Rule, Span};
+use crate::targets::is_id;
+use layer_model::{Attribute, Event, Layer, Relation, Rule, Span, id_at, ids_of, ids_of_letter};
 use mark_base::{AnnId, Arg, AttrId, Kind, Memory, Name};
 use std::alloc::Global;
 use std::collections::BTreeMap;
@@ -48,48 +48,6 @@ pub(crate) fn relation_of(layer: &Layer, id: AnnId) -> Option<&Relation>
         Kind::Relation => layer.relation(id.number),
         _ => None,
     }
-}
-
-/// Appends the IDs of a letter.
-fn push_ids<V>(ids: &mut Vec<AnnId>, kind: Kind, marks: &BTreeMap<u32, V>) -> Result<(), Memory>
-    ensures { OnOk result (ids.new.items ≡ ids.old.items ++ map (id_at kind) (finite.keys (finite.from_entries {R = nat_cmp} marks.now.entries))) }
-{
-    for (number, _) in marks {
-        ids.push(id_at(kind, *number))?;
-    }
-    Ok(())
-}
-
-/// The IDs of a letter, ascending.
-pub(crate) fn ids_of_letter(alloc: Global, layer: &Layer, kind: Kind) -> Result<Vec<AnnId>, Memory>
-    ensures { IfOk result (λ ids. ids.items ≡ ids_of_letter layer.now kind) }
-{
-    let mut ids = Vec::new(alloc);
-    match kind {
-        Kind::Text => push_ids(&mut ids, kind, layer.spans())?,
-        Kind::Event => push_ids(&mut ids, kind, layer.events())?,
-        Kind::Relation => push_ids(&mut ids, kind, layer.relations())?,
-        Kind::Attribute => push_ids(&mut ids, kind, layer.attributes())?,
-        Kind::Legacy => push_ids(&mut ids, kind, layer.legacy())?,
-        Kind::Normal => push_ids(&mut ids, kind, layer.normals())?,
-        Kind::Note => push_ids(&mut ids, kind, layer.notes())?,
-    }
-    Ok(ids)
-}
-
-/// The IDs of a layer, in their order.
-pub(crate) fn ids_of(alloc: Global, layer: &Layer) -> Result<Vec<AnnId>, Memory>
-    ensures { IfOk result (λ ids. ids.items ≡ ids_of layer.now) }
-{
-    let mut ids = Vec::new(alloc);
-    push_ids(&mut ids, Kind::Text, layer.spans())?;
-    push_ids(&mut ids, Kind::Event, layer.events())?;
-    push_ids(&mut ids, Kind::Relation, layer.relations())?;
-    push_ids(&mut ids, Kind::Attribute, layer.attributes())?;
-    push_ids(&mut ids, Kind::Legacy, layer.legacy())?;
-    push_ids(&mut ids, Kind::Normal, layer.normals())?;
-    push_ids(&mut ids, Kind::Note, layer.notes())?;
-    Ok(ids)
 }
 
 /// Whether some argument leads to an annotation.

@@ -11,8 +11,7 @@ ghost use Rattle.layer_core.specs.LowestFlaw.{first_among};
 use crate::bad_texts::{is_bad_entry, is_bad_store, is_bad_text};
 use crate::mark_rules::where_so;
 use crate::scene::Judge;
-use crate::targets::id_at;
-use layer_model::{Flaw, FlawPlace, Layer, Normal, Note, Rule};
+use layer_model::{Flaw, FlawPlace, Layer, Normal, Note, Rule, id_at};
 use mark_base::Kind;
 use std::collections::BTreeMap;
 

@@ -7,8 +7,7 @@ ghost use Rattle.layer_core.specs.PairRules.{classes_full};
 ghost use Rattle.layer_core.specs.WellFormed.{at_layer_full};
 ghost use Rattle.layer_core.specs.LowestFlaw.{first_from, full_at};
 
-use crate::targets::id_at;
-use layer_model::{Class, Flaw, FlawPlace, Layer, Rule};
+use layer_model::{Class, Flaw, FlawPlace, Layer, Rule, id_at};
 use mark_base::Kind;
 use std::collections::BTreeMap;
 

@@ -7,8 +7,7 @@ ghost use Rattle.layer_core.specs.LowestFlaw.{class_rule, flaw_at, lower_flaw, l
 
 use crate::class_rules::class_rule;
 use crate::scene::{Judge, Scene};
-use crate::targets::id_at;
-use layer_model::{Class, Flaw, FlawPlace, Rule};
+use layer_model::{Class, Flaw, FlawPlace, Rule, id_at};
 use mark_base::Kind;
 use std::collections::BTreeMap;
 

@@ -10,10 +10,10 @@ ghost use Rattle.layer_core.specs.Commands.{other_of, other_than, told_of};
 ghost use Rattle.layer_core.specs.PairRules.{is_arg, is_id, refused_overlap, same_attributes, same_bag, same_events, same_relations, same_spans};
 ghost use Rattle.layer_core.specs.LowestFlaw.{HasGoodSpans};
 
-use crate::first_annotation::{event_of, ids_of, relation_of, span_of};
+use crate::first_annotation::{event_of, relation_of, span_of};
 use crate::targets::is_id;
 use annotation_conf::Conf;
-use layer_model::{Attribute, Event, Layer, Relation, Rule, Span, same_fragments};
+use layer_model::{Attribute, Event, Layer, Relation, Rule, Span, ids_of, same_fragments};
 use mark_base::{AnnId, Arg, Kind, Memory};
 use overlap_rules::kind_of;
 use std::alloc::Global;

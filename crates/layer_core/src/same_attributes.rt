@@ -7,8 +7,7 @@ ghost use Rattle.layer_core.specs.FlawPlaces.{first_place, places};
 ghost use Rattle.layer_core.specs.WellFormed.{at_attribute_there};
 
 use crate::repeats::{KeyedId, first_repeat};
-use crate::targets::id_at;
-use layer_model::{Attribute, Flaw, FlawPlace, Layer, Rule, rank};
+use layer_model::{Attribute, Flaw, FlawPlace, Layer, Rule, id_at, rank};
 use mark_base::{Kind, Memory};
 use std::alloc::Global;
 use std::collections::BTreeMap;

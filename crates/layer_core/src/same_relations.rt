@@ -8,8 +8,7 @@ ghost use Rattle.layer_core.specs.FlawPlaces.{first_place, places};
 ghost use Rattle.layer_core.specs.WellFormed.{at_same_relation};
 
 use crate::repeats::{KeyedId, first_repeat};
-use crate::targets::id_at;
-use layer_model::{Flaw, FlawPlace, Layer, Relation, Rule, rank};
+use layer_model::{Flaw, FlawPlace, Layer, Relation, Rule, id_at, rank};
 use mark_base::{Kind, Memory};
 use std::alloc::Global;
 use std::collections::BTreeMap;
