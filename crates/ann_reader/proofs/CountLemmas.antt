@@ -17,7 +17,7 @@ use Rattle.layer_model.specs.Layers.{has, has_number, is_of_kind, with_marked, w
 use Rattle.layer_core.specs.PairRules.{counted_letter}
 use Rattle.ann_reader.specs.Lines.{Line}
 use Rattle.mark_base.specs.AnnIds.{kind_read}
-use Rattle.ann_reader.specs.Forms.{Form, BadForm, TextForm, EventForm, RelationForm, AttributeForm, ClassForm, NormalForm, NoteForm, form_of}
+use Rattle.ann_reader.specs.LineForms.{Form, BadForm, TextForm, EventForm, RelationForm, AttributeForm, ClassForm, NormalForm, NoteForm, form_of}
 use Rattle.ann_reader.specs.References.{own_id, own_word}
 use Rattle.ann_reader.specs.Marks.{Said, mark_of as mark_said, said_of}
 use Rattle.ann_reader.specs.LineFaults.{counted_byte}

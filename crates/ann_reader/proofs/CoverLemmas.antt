@@ -4,13 +4,13 @@ use Rattle.std.specs.List.{list_any, list_all, fold, cons_option, AllByRecursion
 use Rattle.std.proofs.lemmas.Bool.{or_cases, or_left, or_right, and_parts, and_from, eqb-true, false≢true}
 use Rattle.std.proofs.lemmas.List.Folds.{list_any-append}
 use Rattle.mark_base.specs.declared.ann_id.AnnId.{AnnId}
-use Rattle.mark_base.specs.declared.places.RelId.{RelId}
+use Rattle.mark_base.specs.declared.table_places.RelId.{RelId}
 use Rattle.annotation_conf.specs.Configurations.{Configuration}
 use Rattle.layer_model.specs.declared.class.Class.{Class}
 use Rattle.layer_model.specs.Classes.{rank, has_rank, is_among, ascending, comes_before, insert_class, shares, sharing, apart, joined_class, joined}
 use Rattle.layer_model.proofs.IdSets.{has_rank-ascending}
 use Rattle.ann_reader.specs.Lines.{Line}
-use Rattle.ann_reader.specs.Forms.{form_of}
+use Rattle.ann_reader.specs.LineForms.{form_of}
 use Rattle.ann_reader.specs.Marks.{Said, said_of}
 use Rattle.ann_reader.specs.AnnFiles.{said_in, joined_too, classes_of}
 

@@ -19,7 +19,7 @@ use Rattle.layer_core.proofs.LawLemmas.{well_formed_is_unflawed}
 use Rattle.ann_reader.specs.declared.ann_fault.AnnWhat.TheVariants.{Broken}
 use Rattle.ann_reader.specs.Lines.{Line, lines_of}
 use Rattle.mark_base.specs.AnnIds.{kind_read}
-use Rattle.ann_reader.specs.Forms.{Form, BadForm, TextForm, EventForm, RelationForm, AttributeForm, ClassForm, NormalForm, NoteForm, form_of}
+use Rattle.ann_reader.specs.LineForms.{Form, BadForm, TextForm, EventForm, RelationForm, AttributeForm, ClassForm, NormalForm, NoteForm, form_of}
 use Rattle.ann_reader.specs.References.{references, has_no_letter, is_misspelt, is_own_misspelt}
 use Rattle.ann_reader.specs.LineFaults.{is_formless, is_nameless, is_twice, has_unknown_type, has_barred_type, has_unknown_role, has_unknown_value, has_bad_text, one_too_many, count_like, naming_rule, value_rule, line_rule, line_fault, first_line_fault}
 use Rattle.ann_reader.specs.AnnFaults.{as_space, differing, text_differs, text_fault, first_text_fault, layer_of, layer_fault, ann_fault}

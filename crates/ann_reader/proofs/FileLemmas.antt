@@ -10,7 +10,7 @@ use Rattle.layer_core.specs.WellFormed.{IsWellFormed, least_flaw}
 use Rattle.layer_core.proofs.LawLemmas.{unflawed_is_well_formed}
 use Rattle.mark_base.specs.declared.ann_id.AnnId.{AnnId}
 use Rattle.ann_reader.specs.Lines.{Line, lines_of}
-use Rattle.ann_reader.specs.Forms.{Form, BadForm, TextForm, EventForm, RelationForm, AttributeForm, ClassForm, NormalForm, NoteForm, form_of}
+use Rattle.ann_reader.specs.LineForms.{Form, BadForm, TextForm, EventForm, RelationForm, AttributeForm, ClassForm, NormalForm, NoteForm, form_of}
 use Rattle.ann_reader.specs.LineFaults.{is_twice, first_line_fault}
 use Rattle.ann_reader.specs.AnnFaults.{layer_of, layer_fault, first_text_fault, text_fault, text_differs, lines_fault}
 use Rattle.ann_reader.specs.AnnFiles.{IsAnn, Spells, is_line_of}

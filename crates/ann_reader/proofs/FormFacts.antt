@@ -15,15 +15,15 @@ use Rattle.mark_base.specs.ReadIds.{id_at, id_read}
 use Rattle.ann_reader.specs.Lines.{has_tab, first_field, behind_tab, is_gap, without_gap, without_return, without_end}
 use Rattle.mark_base.specs.AnnIds.{kind_read, number_read}
 use Rattle.ann_reader.specs.Words.{words_of, behind_word}
-use Rattle.ann_reader.specs.Forms.{Pair, Form, BadForm, TextForm, EventForm, RelationForm, AttributeForm, ClassForm, NormalForm, NoteForm, has_byte, before_byte, behind_byte, pairs_read, frags_read, text_with, text_form, event_with, event_form, relation_with, relation_by, relation_form, attribute_by, attribute_form, class_by, class_form, normal_by, normal_form, note_by, note_form, two_form, of_two, three_form, of_three, begins_two, begins_three, form_of, head_field}
+use Rattle.ann_reader.specs.LineForms.{Pair, Form, BadForm, TextForm, EventForm, RelationForm, AttributeForm, ClassForm, NormalForm, NoteForm, has_byte, before_byte, behind_byte, pairs_read, frags_read, text_with, text_form, event_with, event_form, relation_with, relation_by, relation_form, attribute_by, attribute_form, class_by, class_form, normal_by, normal_form, note_by, note_form, two_form, of_two, three_form, of_three, begins_two, begins_three, form_of, head_field}
 use Rattle.ann_reader.specs.FormShows.{NamesSome}
 use Rattle.ann_reader.specs.References.{own_id}
 use Rattle.ann_reader.specs.LineFaults.{is_formless}
-use Rattle.mark_base.specs.declared.places.TypeId.{TypeId}
+use Rattle.mark_base.specs.declared.table_places.TypeId.{TypeId}
 use Rattle.mark_base.specs.declared.arguments.Arg.{Arg}
 use Rattle.mark_base.specs.Names.{name_fault}
 use Rattle.layer_model.specs.declared.mark.Mark.TheVariants as marked
-use Rattle.layer_core.specs.Fields.{Valued, Undeclared, Declared}
+use Rattle.layer_core.specs.CommandFields.{Valued, Undeclared, Declared}
 use Rattle.ann_reader.specs.NamesRead.{type_read, event_read, relation_read, attribute_read, value_read}
 use Rattle.ann_reader.specs.Marks.{args_of, ends_of, event_by, relation_by as relation_said, attribute_by as attribute_said, mark_of}
 

@@ -5,7 +5,7 @@ use Rattle.annotation_conf.specs.Configurations.{Configuration}
 use Rattle.ann_reader.specs.declared.ann_fault.AnnWhat.{AnnWhat}
 use Rattle.ann_reader.specs.declared.ann_fault.AnnWhat.TheVariants.{BadLine, BadId, IdTwice, Broken}
 use Rattle.ann_reader.specs.Lines.{Line}
-use Rattle.ann_reader.specs.Forms.{Form, form_of}
+use Rattle.ann_reader.specs.LineForms.{Form, form_of}
 use Rattle.ann_reader.specs.LineFaults.{is_bad_line, has_bad_id, is_twice, line_rule, line_fault}
 
 -- the fault by three tests and the first rule that is broken

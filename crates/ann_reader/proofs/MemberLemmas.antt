@@ -17,8 +17,8 @@ use Rattle.layer_core.specs.Rules.{class_not_for_use}
 use Rattle.layer_core.specs.WellFormed.{IsWellFormed}
 use Rattle.mark_base.specs.ReadIds.{id_read}
 use Rattle.ann_reader.specs.Words.{all_of}
-use Rattle.ann_reader.specs.Forms.{ClassForm}
-use Rattle.ann_reader.specs.declared.letters.Letters.TheVariants.{Spans}
+use Rattle.ann_reader.specs.LineForms.{ClassForm}
+use Rattle.ann_reader.specs.declared.id_letters.Letters.TheVariants.{Spans}
 use Rattle.ann_reader.specs.References.{references, of_letters}
 use Rattle.ann_reader.specs.LineFaults.{has_unknown_type, has_barred_type}
 use Rattle.ann_reader.proofs.PartLemmas.{made, chained, IsSaid}

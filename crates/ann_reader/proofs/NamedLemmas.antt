@@ -5,7 +5,7 @@ use Rattle.std.specs.List.{AllByRecursion}
 use Rattle.mark_base.specs.declared.ann_id.AnnId.{AnnId}
 use Rattle.mark_base.specs.declared.ann_id.Kind.{Kind}
 use Rattle.mark_base.specs.declared.ann_id.Kind.TheVariants as letter
-use Rattle.mark_base.specs.declared.places.TypeId.{TypeId}
+use Rattle.mark_base.specs.declared.table_places.TypeId.{TypeId}
 use Rattle.mark_base.specs.declared.arguments.Arg.{Arg}
 use Rattle.annotation_conf.specs.Configurations.{Configuration}
 use Rattle.layer_model.specs.declared.event.Event.{Event}
@@ -16,8 +16,8 @@ use Rattle.layer_model.specs.Layers.{has_number}
 use Rattle.layer_model.specs.Coherent.{IsCoherent, AllStand as AllThere, LettersFitIn, named, is_span_letter, is_span_or_event_letter}
 use Rattle.ann_reader.specs.Roles.{role_read}
 use Rattle.mark_base.specs.ReadIds.{id_read}
-use Rattle.ann_reader.specs.Forms.{Pair, Form, EventForm, RelationForm, AttributeForm, NormalForm, NoteForm}
-use Rattle.ann_reader.specs.declared.letters.Letters.TheVariants.{SpansOrEvents}
+use Rattle.ann_reader.specs.LineForms.{Pair, Form, EventForm, RelationForm, AttributeForm, NormalForm, NoteForm}
+use Rattle.ann_reader.specs.declared.id_letters.Letters.TheVariants.{SpansOrEvents}
 use Rattle.ann_reader.specs.References.{references, of_letters}
 use Rattle.ann_reader.specs.Marks.{arg_by, arg_of, args_of, Ends, ends_of, is_role}
 use Rattle.ann_reader.specs.AnnFiles.{HasMark, is_span_word}

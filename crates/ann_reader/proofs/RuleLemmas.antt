@@ -5,7 +5,7 @@ use Rattle.std.specs.Option.{is_none, option_and_then, option_map_or}
 use Rattle.std.specs.List.{list_any}
 use Rattle.std.proofs.lemmas.Bool.{or_from, not-true}
 use Rattle.mark_base.specs.declared.ann_id.AnnId.{AnnId}
-use Rattle.mark_base.specs.declared.places.TypeId.{TypeId}
+use Rattle.mark_base.specs.declared.table_places.TypeId.{TypeId}
 use Rattle.mark_base.specs.declared.arguments.Arg.{Arg}
 use Rattle.mark_base.specs.declared.fragments.Frag.{Frag}
 use Rattle.mark_base.specs.Names.{name_fault}
@@ -21,8 +21,8 @@ use Rattle.layer_model.specs.declared.rule.Rule.TheVariants.{NotForUse, UnknownV
 use Rattle.layer_model.specs.Annotations.{Annotations}
 use Rattle.layer_model.specs.Layers.{mark_at}
 use Rattle.layer_model.specs.Coherent.{IsCoherent}
-use Rattle.layer_core.specs.Fields.{value_refused}
-use Rattle.layer_core.specs.Places.{by_place}
+use Rattle.layer_core.specs.CommandFields.{value_refused}
+use Rattle.layer_core.specs.FlawPlaces.{by_place}
 use Rattle.layer_core.specs.Rules.{is_barred_type, not_for_use, class_not_for_use, is_bad_value, unknown_value}
 use Rattle.layer_core.specs.PairRules.{bad_text}
 use Rattle.layer_core.specs.SpanRules.{is_bad_text, is_bad_store, is_bad_entry}
@@ -30,7 +30,7 @@ use Rattle.layer_core.specs.WellFormed.{IsWellFormed, Never, no_class}
 use Rattle.ann_reader.specs.Roles.{role_read}
 use Rattle.ann_reader.specs.NamesRead.{value_read}
 use Rattle.mark_base.specs.ReadIds.{id_read}
-use Rattle.ann_reader.specs.Forms.{Pair, Form, TextForm, EventForm, RelationForm, AttributeForm, ClassForm, NormalForm, NoteForm}
+use Rattle.ann_reader.specs.LineForms.{Pair, Form, TextForm, EventForm, RelationForm, AttributeForm, ClassForm, NormalForm, NoteForm}
 use Rattle.ann_reader.specs.References.{references, is_own_misspelt}
 use Rattle.ann_reader.specs.Marks.{arg_by, arg_of, args_of, ends_of}
 use Rattle.ann_reader.specs.LineFaults.{is_formless, is_nameless, has_unknown_type, has_barred_type, has_unknown_role, has_unknown_value, has_bad_text}

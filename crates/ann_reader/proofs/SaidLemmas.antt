@@ -15,7 +15,7 @@ use Rattle.layer_model.specs.Classes.{joined, rank}
 use Rattle.layer_model.specs.Layers.{has, has_number, is_of_kind, mark_at, mark_of, with_mark}
 use Rattle.layer_core.specs.PairRules.{is_id}
 use Rattle.ann_reader.specs.Lines.{Line}
-use Rattle.ann_reader.specs.Forms.{form_of}
+use Rattle.ann_reader.specs.LineForms.{form_of}
 use Rattle.ann_reader.specs.References.{own_id}
 use Rattle.ann_reader.specs.Marks.{Said, mark_of as mark_said, said_of}
 use Rattle.ann_reader.specs.AnnFaults.{with_read, with_said, with_line}

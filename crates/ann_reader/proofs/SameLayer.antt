@@ -9,7 +9,7 @@ use Rattle.layer_model.specs.Layers.{IsLayer}
 use Rattle.layer_model.specs.Coherent.{IsCoherent}
 use Rattle.layer_core.specs.WellFormed.{IsWellFormed}
 use Rattle.ann_reader.specs.Lines.{Line, lines_of}
-use Rattle.ann_reader.specs.Forms.{Form, BadForm, TextForm, EventForm, RelationForm, AttributeForm, ClassForm, NormalForm, NoteForm, form_of}
+use Rattle.ann_reader.specs.LineForms.{Form, BadForm, TextForm, EventForm, RelationForm, AttributeForm, ClassForm, NormalForm, NoteForm, form_of}
 use Rattle.ann_reader.specs.AnnFaults.{layer_of}
 use Rattle.ann_reader.specs.AnnFiles.{Spells, IsAnn}
 use Rattle.ann_reader.proofs.AnnLemmas.{AllClean, Holds, all_hold}

@@ -12,7 +12,7 @@ use Rattle.layer_model.specs.Classes.{rank, has_rank, is_among, ascending, share
 use Rattle.layer_model.proofs.ClassOrder.{All-insert, All-filter}
 use Rattle.layer_model.proofs.IdSets.{has_rank-ascending}
 use Rattle.ann_reader.specs.Lines.{Line, lines_of}
-use Rattle.ann_reader.specs.Forms.{form_of}
+use Rattle.ann_reader.specs.LineForms.{form_of}
 use Rattle.ann_reader.specs.Marks.{Said, said_of}
 use Rattle.ann_reader.specs.AnnFiles.{IsAnn, said_in, joined_too, classes_of}
 use Rattle.ann_reader.specs.Smallest.{holds_line, Leads, AreLinked, IsLinkedClass}

@@ -9,13 +9,13 @@ use Rattle.std.specs.declared.cmp.Ordering.TheVariants.{Less, Equal, Greater}
 use Rattle.std.proofs.lemmas.Bool.{eqb-true, false≢true}
 use Rattle.std.proofs.lemmas.List.Sums.{fold_push}
 use Rattle.mark_base.specs.declared.ann_id.AnnId.{AnnId}
-use Rattle.layer_core.specs.Ids.{id_place}
+use Rattle.layer_model.specs.LayerIds.{id_place}
 use Rattle.ann_reader.specs.Lines.{Line}
-use Rattle.ann_reader.specs.Forms.{head_field}
+use Rattle.ann_reader.specs.LineForms.{head_field}
 use Rattle.mark_base.specs.ReadIds.{id_read}
 use Rattle.ann_reader.specs.LineFaults.{counted_byte}
-use Rattle.ann_reader.specs.Known.{FindsHeads, is_headed_at}
-use Rattle.ann_reader.specs.Counts.{CountsLines}
+use Rattle.ann_reader.specs.KnownLines.{FindsHeads, is_headed_at}
+use Rattle.ann_reader.specs.LineCounts.{CountsLines}
 
 -- ---- a list at an index, seen by a function
 

@@ -7,7 +7,7 @@ use Rattle.std.proofs.lemmas.List.Splits.{length-slice_split}
 use Rattle.std.proofs.lemmas.List.Sums.{count_by-le-length}
 use Rattle.std.proofs.lemmas.Str.{IsCharBoundary-start, IsCharBoundary-after_ascii}
 use Rattle.ann_reader.specs.Lines.{has_tab, first_field, behind_tab, without_end, without_return}
-use Rattle.ann_reader.specs.Forms.{BadForm, two_form, three_form, of_two, of_three}
+use Rattle.ann_reader.specs.LineForms.{BadForm, two_form, three_form, of_two, of_three}
 use denote.Ref.{Bor}
 
 -- behind its start or an ASCII character

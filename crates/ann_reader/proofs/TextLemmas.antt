@@ -20,7 +20,7 @@ use Rattle.layer_core.specs.Rules.{where_so, bad_fragments, out_of_text}
 use Rattle.layer_core.specs.SpanRules.{are_fragments}
 use Rattle.layer_core.specs.WellFormed.{IsWellFormed}
 use Rattle.ann_reader.specs.NamesRead.{type_read}
-use Rattle.ann_reader.specs.Forms.{TextForm}
+use Rattle.ann_reader.specs.LineForms.{TextForm}
 use Rattle.ann_reader.specs.Marks.{mark_of, span_by}
 use Rattle.ann_reader.specs.AnnFaults.{as_space, differing, text_differs}
 use Rattle.ann_reader.specs.AnnFiles.{HasMark}

@@ -17,7 +17,7 @@ use Rattle.layer_model.specs.Layers.{has, with_mark, with_classes}
 use Rattle.layer_core.specs.WellFormed.{least_flaw}
 use Rattle.ann_reader.specs.declared.ann_fault.AnnWhat.TheVariants.{NotUtf8, WrongText, Broken}
 use Rattle.ann_reader.specs.Lines.{Line, lines_of}
-use Rattle.ann_reader.specs.Forms.{Form, TextForm, form_of}
+use Rattle.ann_reader.specs.LineForms.{Form, TextForm, form_of}
 use Rattle.ann_reader.specs.References.{own_id}
 use Rattle.ann_reader.specs.Marks.{Said, mark_of, said_of}
 use Rattle.ann_reader.specs.LineFaults.{Fault, headed_by, first_line_fault}

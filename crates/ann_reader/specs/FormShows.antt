@@ -1,13 +1,13 @@
 -- What the values of a reader show of the form of a line (private calls only).
 use Rattle.std.specs.Prelude.{ℕ, ◌<◌, List, length, map, option_map, ⊤}
-use Rattle.ann_reader.specs.declared.form.Pair.{Pair as PairValue}
-use Rattle.ann_reader.specs.declared.form.Form.{Form as FormValue}
-use Rattle.ann_reader.specs.declared.form.Form.TheVariants as value
+use Rattle.ann_reader.specs.declared.line_form.Pair.{Pair as PairValue}
+use Rattle.ann_reader.specs.declared.line_form.Form.{Form as FormValue}
+use Rattle.ann_reader.specs.declared.line_form.Form.TheVariants as value
 use Rattle.ann_reader.specs.declared.references.Reference.{Reference as ReferenceValue}
 use Rattle.ann_reader.specs.declared.declared_names.Value.{Value}
 use Rattle.ann_reader.specs.declared.declared_names.Value.TheVariants as given
-use Rattle.layer_core.specs.Fields.{Valued, Undeclared, Declared}
-use Rattle.ann_reader.specs.Forms.{Pair, Form, BadForm, TextForm, EventForm, RelationForm, AttributeForm, ClassForm, NormalForm, NoteForm}
+use Rattle.layer_core.specs.CommandFields.{Valued, Undeclared, Declared}
+use Rattle.ann_reader.specs.LineForms.{Pair, Form, BadForm, TextForm, EventForm, RelationForm, AttributeForm, ClassForm, NormalForm, NoteForm}
 use Rattle.ann_reader.specs.References.{Reference}
 use Rattle.ann_reader.specs.declared.marks.Ends.{Ends as EndsValue}
 use Rattle.ann_reader.specs.declared.marks.Said.{Said as SaidValue}

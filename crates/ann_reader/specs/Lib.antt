@@ -1,10 +1,10 @@
 pub mod AnnFaults
 pub mod AnnFiles
-pub mod Counts
+pub mod LineCounts
 pub mod FaultShows
 pub mod FormShows
-pub mod Forms
-pub mod Known
+pub mod LineForms
+pub mod KnownLines
 pub mod LineFaults
 pub mod LineShows
 pub mod LineTypes

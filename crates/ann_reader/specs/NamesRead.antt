@@ -1,13 +1,13 @@
 -- What a word names in a configuration; a word that is no name names nothing.
 use Rattle.std.specs.Prelude.{ℕ, List, Option, Some, None, is_none, option_and_then, if◌then◌else◌}
 use Rattle.std.specs.Option.{option_map_or}
-use Rattle.mark_base.specs.declared.places.TypeId.{TypeId}
+use Rattle.mark_base.specs.declared.table_places.TypeId.{TypeId}
 use Rattle.mark_base.specs.Names.{name_fault}
 use Rattle.type_hierarchy.specs.TypeTrees.{type_named}
 use Rattle.annotation_conf.specs.Configurations.{Configuration}
 use Rattle.annotation_conf.specs.Lookups.{relation_named, attribute_named, value_named}
 use Rattle.layer_core.specs.Targets.{is_event_type}
-use Rattle.layer_core.specs.Fields.{Valued, Undeclared, Declared}
+use Rattle.layer_core.specs.CommandFields.{Valued, Undeclared, Declared}
 
 -- what a table has under a word that is a name
 abbrev pub by_name : {X : Type 0} → (List ℕ → Option X) → List ℕ → Option X

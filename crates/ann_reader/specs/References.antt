@@ -4,11 +4,11 @@ use Rattle.std.specs.Option.{option_map_or}
 use Rattle.mark_base.specs.declared.ann_id.AnnId.{AnnId}
 use Rattle.mark_base.specs.declared.ann_id.Kind.{Kind}
 use Rattle.layer_model.specs.Coherent.{is_span_letter, is_span_or_event_letter, is_attributed_letter, is_noted_letter}
-use Rattle.ann_reader.specs.declared.letters.Letters.{Letters}
-use Rattle.ann_reader.specs.declared.letters.Letters.TheVariants.{Spans, SpansOrEvents, Attributed, AnyButNotes}
+use Rattle.ann_reader.specs.declared.id_letters.Letters.{Letters}
+use Rattle.ann_reader.specs.declared.id_letters.Letters.TheVariants.{Spans, SpansOrEvents, Attributed, AnyButNotes}
 use Rattle.mark_base.specs.ReadIds.{id_read}
 use Rattle.mark_base.specs.AnnIds.{kind_read}
-use Rattle.ann_reader.specs.Forms.{Form, BadForm, TextForm, EventForm, RelationForm, AttributeForm, ClassForm, NormalForm, NoteForm}
+use Rattle.ann_reader.specs.LineForms.{Form, BadForm, TextForm, EventForm, RelationForm, AttributeForm, ClassForm, NormalForm, NoteForm}
 
 -- the letter may stand there
 abbrev pub may_stand : Letters → Kind → Bool

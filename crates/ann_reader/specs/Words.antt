@@ -1,8 +1,9 @@
 -- The words of a field, and how fragments are spelt.
-use Rattle.std.specs.Prelude.{ℕ, ◌-◌, ◌==◌, ◌||◌, Bool, not, List, [], ◌∷◌, length, drop, slice_index, Option, Some, None, option_map, option_and_then, filter, if◌then◌else◌}
+use Rattle.std.specs.Prelude.{ℕ, ◌-◌, ◌==◌, ◌||◌, Bool, not, List, [], ◌∷◌, length, drop, slice_index, Option, Some, None, filter, if◌then◌else◌}
 use Rattle.std.specs.List.{after_first, slice_split, prefix_len}
 use Rattle.mark_base.specs.declared.fragments.Frag.{Frag}
 use Rattle.mark_base.specs.AnnIds.{number_read}
+pub use Rattle.mark_base.specs.Lists.{all_of}
 
 -- a space
 abbrev pub is_space : ℕ → Bool
@@ -35,8 +36,3 @@ frag_of _ _ = None
 abbrev pub frag_read : List (List ℕ) → Option Frag
 frag_read (start ∷ end ∷ []) = frag_of (number_read start) (number_read end)
 frag_read _ = None
-
--- each of some, where each is there
-abbrev pub all_of : {X : Type 0} → List (Option X) → Option (List X)
-all_of [] = Some []
-all_of (one ∷ more) = option_and_then (λ x. option_map (λ xs. x ∷ xs) (all_of more)) one

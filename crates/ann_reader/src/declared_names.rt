@@ -5,7 +5,7 @@ ghost use Rattle.annotation_conf.specs.Lookups.{value_named};
 ghost use Rattle.ann_reader.specs.NamesRead.{by_name, type_read, where_event, event_read, relation_read, attribute_read, value_read};
 ghost use Rattle.ann_reader.specs.FormShows.{seen_form, seen_text, seen_value};
 
-use crate::form::Form;
+use crate::line_form::Form;
 use annotation_conf::Conf;
 use mark_base::{AttrId, Memory, Name, NameFault, RelId, TypeId};
 use std::alloc::Global;

@@ -1,13 +1,13 @@
 //! The lines of a file, with the line of each ID.
 ghost use Rattle.std.specs.Prelude.{◌≡◌, map, IfOk, option_map};
-ghost use Rattle.ann_reader.specs.Forms.{head_field};
+ghost use Rattle.ann_reader.specs.LineForms.{head_field};
 ghost use Rattle.mark_base.specs.ReadIds.{id_read};
 ghost use Rattle.ann_reader.specs.LineFaults.{headed_by};
 ghost use Rattle.ann_reader.specs.LineShows.{seen_line};
-ghost use Rattle.ann_reader.specs.Known.{FindsHeads};
+ghost use Rattle.ann_reader.specs.KnownLines.{FindsHeads};
 
-use crate::form::begins_two;
 use crate::line::{Line, before, without_end};
+use crate::line_form::begins_two;
 use crate::word::first_byte;
 use layer_model::rank;
 use mark_base::{AnnId, Memory};
@@ -26,7 +26,7 @@ impl<'a> Model for KnownLines<'a> {
     ghost use Rattle.std.specs.Prelude.{List, map};
     ghost use Rattle.ann_reader.specs.Lines.{Line};
     ghost use Rattle.ann_reader.specs.LineShows.{seen_line};
-    ghost use Rattle.ann_reader.specs.Known.{FindsHeads};
+    ghost use Rattle.ann_reader.specs.KnownLines.{FindsHeads};
 
     ghost Value = { List Line };
 

@@ -6,7 +6,7 @@ ghost use Rattle.ann_reader.specs.FormShows.{NamesSome, seen_form, seen_said};
 ghost use Rattle.layer_model.specs.Layers.{is_of_kind};
 
 use crate::declared_names::LineTypes;
-use crate::form::Form;
+use crate::line_form::Form;
 use crate::marks::{Said, mark_of, said_of};
 use crate::references::own_id;
 use annotation_conf::Conf;

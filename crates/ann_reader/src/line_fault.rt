@@ -3,14 +3,14 @@ ghost use Rattle.std.specs.Prelude.{◌≡◌, IfOk, IfSome, is_none, is_some, l
 ghost use Rattle.std.specs.List.{list_any};
 ghost use Rattle.mark_base.specs.Names.{name_fault};
 ghost use Rattle.annotation_conf.specs.Lookups.{values_of};
-ghost use Rattle.layer_core.specs.Fields.{value_refused};
+ghost use Rattle.layer_core.specs.CommandFields.{value_refused};
 ghost use Rattle.layer_core.specs.PairRules.{counted_letter};
 ghost use Rattle.layer_core.specs.Rules.{is_barred_type};
 ghost use Rattle.std.specs.Option.{option_map_or};
 ghost use Rattle.std.specs.Prelude.{false};
 ghost use Rattle.ann_reader.specs.Roles.{role_read};
 ghost use Rattle.ann_reader.specs.References.{references};
-ghost use Rattle.ann_reader.specs.Forms.{form_of};
+ghost use Rattle.ann_reader.specs.LineForms.{form_of};
 ghost use Rattle.ann_reader.specs.LineFaults.{is_formless, is_nameless, is_twice, has_unknown_type, has_barred_type, first_absent, first_unfit, has_unknown_role, has_unknown_value, has_bad_text, one_too_many, naming_rule, value_rule, line_rule, is_bad_line, has_bad_id, line_fault};
 ghost use Rattle.ann_reader.specs.LineShows.{seen_line};
 ghost use Rattle.ann_reader.specs.LineTypes.{HasTypes};
@@ -18,9 +18,9 @@ ghost use Rattle.ann_reader.specs.FormShows.{seen_form, seen_pair, seen_referenc
 
 use crate::AnnWhat;
 use crate::declared_names::{LineTypes, Value, value_read};
-use crate::form::{Form, Pair};
 use crate::known_lines::KnownLines;
 use crate::line::Line;
+use crate::line_form::{Form, Pair};
 use crate::marks::ends_of;
 use crate::references::{
     Reference, is_own_misspelt, may_stand, own_id, references, some_misspelt, some_without_letter,

@@ -8,7 +8,7 @@ ghost use Rattle.mark_base.specs.ReadIds.{id_read};
 ghost use Rattle.ann_reader.specs.Words.{all_of};
 
 use crate::declared_names::{LineTypes, Value, value_read};
-use crate::form::{Form, Pair};
+use crate::line_form::{Form, Pair};
 use crate::roles::role_read;
 use annotation_conf::Conf;
 use layer_model::{Attribute, Event, Mark, Normal, Note, Relation, Span};

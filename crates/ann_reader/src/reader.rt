@@ -1,5 +1,5 @@
 //! Reading .ann files.
-ghost use Rattle.std.specs.Prelude.{◌≡◌, ◌≤◌, ◌==◌, [], None, OnOk, length, count_by, map, option_map, IfOk, IfErr, IfSome};
+ghost use Rattle.std.specs.Prelude.{◌≡◌, ◌≤◌, [], None, OnOk, length, map, option_map, IfOk, IfErr, IfSome};
 ghost use Rattle.std.specs.Option.{option_map_or, option_or};
 ghost use Rattle.std.specs.List.{list_any, find};
 ghost use Rattle.layer_model.specs.Classes.{is_among};
@@ -9,18 +9,18 @@ ghost use Rattle.ann_reader.specs.AnnFaults.{brings, brings_some, first_text_fau
 ghost use Rattle.ann_reader.specs.AnnFiles.{IsAnn};
 ghost use Rattle.ann_reader.specs.LineShows.{seen_line};
 ghost use Rattle.ann_reader.specs.FormShows.{seen_form, seen_said};
-ghost use Rattle.ann_reader.specs.Forms.{form_of};
+ghost use Rattle.ann_reader.specs.LineForms.{form_of};
 ghost use Rattle.ann_reader.specs.FaultShows.{seen_fault};
 ghost use Rattle.ann_reader.specs.PlainTexts.{IsPlain};
 ghost use Rattle.ann_reader.specs.ReadFaults.{IsFault, Tells};
 
 use crate::declared_names::line_types;
-use crate::form::{Form, form_of};
 use crate::known_lines::KnownLines;
 use crate::layer_lines::add_line;
 use crate::line::{Line, lines};
 use crate::line_counts::{LineCounts, count_line, count_of};
 use crate::line_fault::line_fault;
+use crate::line_form::{Form, form_of};
 use crate::marks::{Said, said_of};
 use crate::texts::{plain_text, text_differs};
 use crate::word::first_byte;
@@ -29,7 +29,7 @@ use annotation_conf::Conf;
 use char_documents::Doc;
 use layer_core::{CheckFault, check};
 use layer_model::{Class, Flaw, FlawPlace, Layer, rank};
-use mark_base::{AnnId, Memory};
+use mark_base::{AnnId, Memory, count_line_ends};
 use std::alloc::Global;
 use std::collections::BTreeMap;
 use std::str;
@@ -39,14 +39,6 @@ use std::str;
 struct Fault {
     line: u32,
     what: AnnWhat,
-}
-
-/// How many lines end in some bytes.
-fn line_ends(bytes: &[u8]) -> usize
-    ensures value { result ≡ count_by (λ b. b == 10) bytes.now }
-    ensures bound { result ≤ length bytes.now }
-{
-    bytes.iter().filter(|byte| **byte == b'\n').count()
 }
 
 /// Whether an ID is one of these.
@@ -289,7 +281,7 @@ pub fn read_ann(alloc: Global, bytes: &[u8], doc: &Doc, conf: &Conf) -> Result<L
         Err(error) => {
             let valid = error.valid_up_to();
             Err(AnnFault::At {
-                line: line_ends(&bytes[..valid]) as u32 + 1,
+                line: count_line_ends(&bytes[..valid]) as u32 + 1,
                 what: AnnWhat::NotUtf8,
             })
         }

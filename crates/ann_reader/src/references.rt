@@ -4,8 +4,8 @@ ghost use Rattle.std.specs.List.{list_any};
 ghost use Rattle.ann_reader.specs.References.{may_stand, of_letters, references, own_word, own_id, is_own_misspelt, has_no_letter, is_misspelt};
 ghost use Rattle.ann_reader.specs.FormShows.{seen_text, seen_pair, seen_form, seen_reference};
 
-use crate::form::{Form, Pair};
-use crate::letters::Letters;
+use crate::id_letters::Letters;
+use crate::line_form::{Form, Pair};
 use crate::word::first_byte;
 use mark_base::{AnnId, Kind, Memory};
 use std::alloc::Global;

@@ -6,8 +6,8 @@ ghost use Rattle.ann_reader.specs.AnnFaults.{as_space, differing, text_differs};
 ghost use Rattle.ann_reader.specs.FormShows.{seen_form};
 ghost use Rattle.ann_reader.specs.PlainTexts.{IsPlain};
 
-use crate::form::Form;
 use crate::line::has_byte;
+use crate::line_form::Form;
 use char_documents::{Doc, RefFault};
 use mark_base::{Frag, Memory};
 use std::alloc::{AllocError, Global};

@@ -3,10 +3,10 @@ ghost use Rattle.std.specs.Prelude.{◌≡◌, ◌≤◌, ◌<◌, ◌-◌, ◌=
 ghost use Rattle.std.specs.List.{slice_split, prefix_len};
 ghost use Rattle.mark_base.specs.AnnIds.{number_read};
 ghost use Rattle.ann_reader.specs.Words.{is_space, is_padded, words_of, behind_word, frag_of, frag_read, all_of};
-ghost use Rattle.ann_reader.specs.Forms.{frags_read};
+ghost use Rattle.ann_reader.specs.LineForms.{frags_read};
 
 use crate::line::{back, behind};
-use mark_base::{Frag, Memory, number_read};
+use mark_base::{Frag, Memory, number_read, split_fragments};
 use std::alloc::{AllocError, Global};
 
 /// Whether a space stands before the first word or behind the last.
@@ -73,13 +73,6 @@ pub(crate) fn first_byte(bytes: &[u8]) -> u8
         [] => 0,
         [first, ..] => *first,
     }
-}
-
-/// What semicolons separate.
-fn split_fragments(alloc: Global, text: &str) -> Result<Vec<&str>, AllocError>
-    ensures { IfOk result (λ pieces. map (λ piece. piece.now) pieces.items ≡ slice_split (λ b. b == 59) text.now) }
-{
-    text.split(';').collect(alloc)
 }
 
 /// The fragment of two words.

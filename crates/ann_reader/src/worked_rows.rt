@@ -2,7 +2,7 @@
 //! checked.
 ghost use Rattle.std.specs.Prelude.{◌≡◌, [], ◌∷◌, codes, Some, None, refl};
 ghost use Rattle.ann_reader.specs.Lines.{lines_of};
-ghost use Rattle.ann_reader.specs.Forms.{BadForm, TextForm, EventForm, RelationForm, ClassForm, NormalForm, form_of};
+ghost use Rattle.ann_reader.specs.LineForms.{BadForm, TextForm, EventForm, RelationForm, ClassForm, NormalForm, form_of};
 
 /// The lines of a file and their forms.
 pub fn examples_of_lines()

@@ -9,7 +9,7 @@ use Rattle.std.specs.declared.cmp.Ordering.TheVariants.{Less, Greater}
 use Rattle.std.specs.List.{AllByRecursion, list_any, fold}
 use Rattle.std.specs.List.Sorted.{IsStrictlySortedBy}
 use Rattle.mark_base.specs.declared.ann_id.AnnId.{AnnId}
-use Rattle.mark_base.specs.declared.places.RelId.{RelId}
+use Rattle.mark_base.specs.declared.table_places.RelId.{RelId}
 use Rattle.annotation_conf.specs.Configurations.{Configuration}
 use Rattle.annotation_conf.specs.ConfText.{relation_name_at}
 use Rattle.layer_model.specs.declared.class.Class.{Class}
@@ -22,7 +22,7 @@ use Rattle.layer_model.specs.declared.rule.Rule.{Rule}
 use Rattle.ann_reader.specs.Lines.{is_blank}
 use Rattle.mark_base.specs.ReadIds.{id_read}
 use Rattle.ann_reader.specs.Words.{all_of}
-use Rattle.ann_reader.specs.Forms.{Form, ClassForm, form_of, head_field}
+use Rattle.ann_reader.specs.LineForms.{Form, ClassForm, form_of, head_field}
 use Rattle.ann_reader.specs.LineFaults.{is_formless}
 use Rattle.ann_reader.proofs.FormFacts.{head_same}
 use Rattle.ann_reader.specs.References.{own_id}

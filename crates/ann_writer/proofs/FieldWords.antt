@@ -8,7 +8,7 @@ use Rattle.annotation_conf.proofs.WrittenLists.{split_none, split_at, before_at,
 use Rattle.annotation_conf.proofs.WrittenPieces.{first-append}
 use Rattle.ann_reader.specs.Lines.{has_tab, first_field, behind_tab, is_gap, without_gap, without_return, without_end}
 use Rattle.ann_reader.specs.Words.{is_space, is_padded, is_some_word, words_of, all_of}
-use Rattle.ann_reader.specs.Forms.{Form, Pair, BadForm, two_form, of_two, three_form, of_three, pair_read, has_byte, before_byte, behind_byte}
+use Rattle.ann_reader.specs.LineForms.{Form, Pair, BadForm, two_form, of_two, three_form, of_three, pair_read, has_byte, before_byte, behind_byte}
 use Rattle.ann_writer.specs.Words.{pair_word, words_behind}
 use Rattle.ann_writer.proofs.PlainWords.{IsPlain, parts, no_space, longer}
 

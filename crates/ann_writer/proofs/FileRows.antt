@@ -23,7 +23,7 @@ use Rattle.layer_core.specs.PairRules.{is_id}
 use Rattle.layer_core.proofs.PlaceLemmas.{along, is_less, left, right}
 use Rattle.ann_reader.specs.Lines as file
 use Rattle.ann_reader.specs.Lines.{Line, is_blank, lines_from}
-use Rattle.ann_reader.specs.Forms.{form_of, head_field}
+use Rattle.ann_reader.specs.LineForms.{form_of, head_field}
 use Rattle.ann_reader.specs.References.{own_id}
 use Rattle.ann_reader.specs.Marks.{Said, said_of}
 use Rattle.ann_reader.specs.LineFaults.{is_headed, headed_by, is_twice}

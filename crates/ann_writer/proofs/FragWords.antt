@@ -9,7 +9,7 @@ use Rattle.mark_base.specs.ReadIds.{id_read}
 use Rattle.mark_base.proofs.IdLemmas.{id_at-id, spelling_read}
 use Rattle.mark_base.proofs.NumberLemmas.{number_read_back}
 use Rattle.ann_reader.specs.Words.{words_of, frag_of, frag_read, all_of}
-use Rattle.ann_reader.specs.Forms.{frags_read}
+use Rattle.ann_reader.specs.LineForms.{frags_read}
 use Rattle.ann_writer.specs.Words.{id_word, frag_word, frags_word, words_behind}
 use Rattle.ann_writer.proofs.PlainWords.{IsPlain, decimal_plain, decimal_semicolon, plain-append}
 use Rattle.ann_writer.proofs.FieldWords.{words_read, all_read}

@@ -11,7 +11,7 @@ use Rattle.annotation_conf.proofs.WrittenLists.{after_at, before_at, any_at, non
 use Rattle.annotation_conf.proofs.WrittenPieces.{first-append}
 use Rattle.ann_reader.specs.Lines.{without_return, without_end}
 use Rattle.ann_reader.specs.Words.{is_space, behind_word}
-use Rattle.ann_reader.specs.Forms.{Pair, Form, BadForm, TextForm, EventForm, RelationForm, ClassForm, NormalForm, NoteForm, two_form, of_two, three_form, of_three, form_of, form_by, pairs_read, frags_read, has_byte, before_byte, behind_byte, text_with, event_with, relation_by, relation_with, attribute_form, attribute_by, class_by, normal_by, note_by}
+use Rattle.ann_reader.specs.LineForms.{Pair, Form, BadForm, TextForm, EventForm, RelationForm, ClassForm, NormalForm, NoteForm, two_form, of_two, three_form, of_three, form_of, form_by, pairs_read, frags_read, has_byte, before_byte, behind_byte, text_with, event_with, relation_by, relation_with, attribute_form, attribute_by, class_by, normal_by, note_by}
 use Rattle.ann_writer.specs.Words.{frags_word, pair_word, words_behind, line_of, line_with_text}
 use Rattle.ann_writer.proofs.PlainWords.{IsPlain, parts, no_tab, no_space, longer, spelling_plain, decimal_plain}
 use Rattle.ann_writer.proofs.FieldWords.{last_words, last-append, words_read, unended, two_read, three_read, none_index, pair_read_back}

@@ -14,7 +14,7 @@ use Rattle.mark_base.specs.declared.ann_id.Kind.{Kind}
 use Rattle.mark_base.specs.declared.ann_id.Kind.TheVariants as letter
 use Rattle.mark_base.specs.declared.fragments.Frag.{Frag}
 use Rattle.mark_base.specs.declared.arguments.Arg.{Arg}
-use Rattle.mark_base.specs.declared.places.TypeId.{TypeId}
+use Rattle.mark_base.specs.declared.table_places.TypeId.{TypeId}
 use Rattle.mark_base.specs.declared.name.NameFault.{NameFault}
 use Rattle.mark_base.specs.AnnIds.{letter_of, spelling_of}
 use Rattle.char_documents.specs.Texts.{all_lie_in, lies_in, reference_text}
@@ -40,17 +40,17 @@ use Rattle.layer_model.specs.Coherent.{is_span_letter}
 use Rattle.layer_model.specs.Layers.{mark_of as marked_of}
 use Rattle.layer_model.specs.Numbers.{NumbersFit}
 use Rattle.mark_base.specs.ReadIds.{id_at, id_read}
-use Rattle.layer_core.specs.Places.{by_place}
+use Rattle.layer_core.specs.FlawPlaces.{by_place}
 use Rattle.layer_core.specs.Rules.{where_so, unknown_type, unknown_class, bad_fragments, unknown_value, is_bad_value}
 use Rattle.layer_core.specs.PairRules.{bad_text}
 use Rattle.layer_core.specs.SpanRules.{are_fragments, is_bad_text, is_bad_store, is_bad_entry}
-use Rattle.layer_core.specs.Fields.{Declared}
+use Rattle.layer_core.specs.CommandFields.{Declared}
 use Rattle.layer_core.specs.Targets.{is_event_type}
 use Rattle.layer_core.specs.WellFormed.{IsWellFormed, Never, no_class}
 use Rattle.layer_core.proofs.PlaceLemmas.{at_entry}
 use Rattle.ann_reader.specs.Lines.{is_blank, is_blank_byte}
-use Rattle.ann_reader.specs.Forms.{Form, TextForm, EventForm, RelationForm, AttributeForm, NormalForm, NoteForm, form_of, head_field}
-use Rattle.ann_reader.specs.Forms as forms
+use Rattle.ann_reader.specs.LineForms.{Form, TextForm, EventForm, RelationForm, AttributeForm, NormalForm, NoteForm, form_of, head_field}
+use Rattle.ann_reader.specs.LineForms as forms
 use Rattle.ann_reader.specs.References.{own_word, own_id}
 use Rattle.ann_reader.specs.NamesRead.{value_read}
 use Rattle.ann_reader.specs.Marks.{mark_of, said_of, event_by, args_of, relation_by, ends_of, Ends, is_role, attribute_by}

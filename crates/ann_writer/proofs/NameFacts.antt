@@ -3,7 +3,7 @@ use Rattle.std.proofs.Common.{◌≡◌, refl, sym, ap, ap₂, ◌∙◌, subst,
 use Rattle.std.proofs.lemmas.Bool.{true≢false}
 use Rattle.std.specs.Option.{is_none, option_map_or}
 use Rattle.std.specs.List.{position_from}
-use Rattle.mark_base.specs.declared.places.TypeId.{TypeId}
+use Rattle.mark_base.specs.declared.table_places.TypeId.{TypeId}
 use Rattle.type_hierarchy.specs.declared.type_row.TypeRow.{TypeRow}
 use Rattle.type_hierarchy.specs.TypeTrees.{type_named}
 use Rattle.annotation_conf.specs.Configurations.{Configuration}
@@ -15,7 +15,7 @@ use Rattle.annotation_conf.specs.Lookups.{relation_named, relation_role, attribu
 use Rattle.annotation_conf.specs.Sound.{IsSound, IsName, IsRole, AreRoles, IsRelation, IsAttribute}
 use Rattle.annotation_conf.proofs.Written.{IsWord}
 use Rattle.annotation_conf.specs.ConfFaults.{stands_twice}
-use Rattle.layer_core.specs.Fields.{Undeclared, Declared}
+use Rattle.layer_core.specs.CommandFields.{Undeclared, Declared}
 use Rattle.layer_core.specs.Targets.{is_event_type}
 use Rattle.ann_reader.specs.NamesRead.{by_name, type_read, where_event, event_read, relation_read, attribute_read, value_read}
 use Rattle.ann_reader.specs.Marks.{is_role}

@@ -6,7 +6,7 @@ use Rattle.std.specs.Str.{NonePass, all_ascii_digits}
 use Rattle.std.specs.List.{All, AllByRecursion, position_from}
 use Rattle.std.proofs.lemmas.Bool.{ne_eqb}
 use Rattle.mark_base.specs.declared.arguments.Arg.{Arg}
-use Rattle.mark_base.specs.declared.places.TypeId.{TypeId}
+use Rattle.mark_base.specs.declared.table_places.TypeId.{TypeId}
 use Rattle.mark_base.specs.AnnIds.{is_canonical}
 use Rattle.annotation_conf.specs.Configurations.{Configuration}
 use Rattle.annotation_conf.specs.declared.role.Role.{Role}
@@ -16,7 +16,7 @@ use Rattle.annotation_conf.proofs.Written.{IsWord}
 use Rattle.annotation_conf.proofs.WrittenLists.{none-append}
 use Rattle.layer_core.specs.Rules.{filled}
 use Rattle.ann_reader.specs.Roles.{role_read, role_before, role_before_number, digit_counts}
-use Rattle.ann_reader.specs.Forms.{Pair, pairs_read}
+use Rattle.ann_reader.specs.LineForms.{Pair, pairs_read}
 use Rattle.ann_reader.specs.Marks.{arg_by, args_of}
 use Rattle.ann_writer.specs.Words.{argument_words, id_word, pair_word, reads_as, role_name_at, role_spelling}
 use Rattle.ann_writer.proofs.ConfWords.{are_roles, equal_words, is_word}

@@ -31,7 +31,7 @@ use Rattle.layer_core.specs.WellFormed.{IsWellFormed}
 use Rattle.layer_core.proofs.PlaceLemmas.{entries_found}
 use Rattle.ann_reader.specs.Lines as file
 use Rattle.ann_reader.specs.Lines.{Line}
-use Rattle.ann_reader.specs.Forms.{form_of}
+use Rattle.ann_reader.specs.LineForms.{form_of}
 use Rattle.ann_reader.specs.LineFaults.{is_twice}
 use Rattle.ann_reader.specs.AnnFiles.{Spells, is_line_of, said_in, classes_of, IsAnn}
 use Rattle.ann_writer.specs.Words.{id_word, frags_word, pair_word, argument_words}

@@ -16,7 +16,7 @@ use Rattle.annotation_conf.specs.ConfFaults.{Declared, names_of}
 use Rattle.annotation_conf.specs.ConfOf.{places_of}
 use Rattle.annotation_conf.specs.FileKept.{KeptMacro, kept_macro}
 use Rattle.annotation_conf.specs.FileShows.{seen_macro, seen_alternative}
-use Rattle.annotation_conf.specs.NamesKnown.{is_called, place_among}
+use Rattle.annotation_conf.specs.NamePlaces.{is_called, place_among}
 use Rattle.annotation_conf.specs.KnownFiles.{of_macros, IsKnown}
 use Rattle.annotation_conf.specs.KnownMacros.{kinds_of, AreBuiltIn}
 use Rattle.annotation_conf.specs.BuildPlaces.{names_in, places_held, AreFirstPlaces, places_by, inserted}

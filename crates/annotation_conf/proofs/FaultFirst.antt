@@ -9,7 +9,7 @@ use Rattle.annotation_conf.specs.ConfNames.{NamedLine, File}
 use Rattle.annotation_conf.specs.ConfFaults.{of_named, first_line}
 use Rattle.annotation_conf.specs.FileKept.{kept_named}
 use Rattle.annotation_conf.specs.FileShows.{seen_named}
-use Rattle.annotation_conf.specs.NamesKnown.{is_called}
+use Rattle.annotation_conf.specs.NamePlaces.{is_called}
 use Rattle.annotation_conf.specs.KnownFiles.{IsKnown}
 
 -- the first line of a name stands at its place

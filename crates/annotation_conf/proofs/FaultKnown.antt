@@ -6,7 +6,7 @@ use Rattle.annotation_conf.specs.ConfFaults.{Declared, of_types, of_named, first
 use Rattle.annotation_conf.specs.FirstFaults.{IsRising}
 use Rattle.annotation_conf.specs.FileKept.{KeptType, KeptNamed, KeptMacro, kept_type, kept_named, kept_macro}
 use Rattle.annotation_conf.specs.FileShows.{seen_type, seen_named, seen_macro}
-use Rattle.annotation_conf.specs.NamesKnown.{firsts_among}
+use Rattle.annotation_conf.specs.NamePlaces.{firsts_among}
 use Rattle.annotation_conf.specs.KnownFiles.{type_declared, named_declared, macro_declared, of_macros, IsKnown}
 use Rattle.annotation_conf.proofs.FaultNames.{map_of_rising}
 

@@ -11,7 +11,7 @@ use Rattle.annotation_conf.specs.declared.faults_macros.Kinds.{Kinds}
 use Rattle.annotation_conf.specs.ConfPairs.{Alternative, Named, Held}
 use Rattle.annotation_conf.specs.ConfNames.{File, MacroLine, Holding, all_held, one_held, both_held, none_held, macro_named, built_in}
 use Rattle.annotation_conf.specs.ConfFaults.{is_among, names_of, bound_names, declared_names, is_unknown, is_unheld}
-use Rattle.annotation_conf.specs.NamesKnown.{is_called, place_among}
+use Rattle.annotation_conf.specs.NamePlaces.{is_called, place_among}
 use Rattle.annotation_conf.specs.declared.file.File.{File as FileValue}
 use Rattle.annotation_conf.specs.declared.file.MacroLine.{MacroLine as MacroLineValue}
 use Rattle.annotation_conf.specs.declared.pieces.Alternative.{Alternative as AlternativeValue}

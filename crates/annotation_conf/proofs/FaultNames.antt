@@ -14,12 +14,12 @@ use Rattle.std.proofs.lemmas.List.Sums.{length-filter}
 use Rattle.std.specs.List.Sorted.{IsNonDecreasingBy}
 use Rattle.annotation_conf.specs.declared.known_names.DeclaredName.{DeclaredName}
 use denote.Ref.{Bor}
-use Rattle.annotation_conf.specs.NamesKnown.{seen_declared}
+use Rattle.annotation_conf.specs.NamePlaces.{seen_declared}
 use Rattle.std.proofs.lemmas.Option.{same_Some}
 use Rattle.std.proofs.lemmas.Slice.Eq.{bytes_eq-Decides}
 use Rattle.annotation_conf.specs.ConfFaults.{Declared, stood_before, is_among, names_of}
 use Rattle.annotation_conf.specs.FirstFaults.{IsRising}
-use Rattle.annotation_conf.specs.NamesKnown.{is_called, place_among, FindsPlaces}
+use Rattle.annotation_conf.specs.NamePlaces.{is_called, place_among, FindsPlaces}
 
 abbrev number : Declared → ℕ
 number one = one.number

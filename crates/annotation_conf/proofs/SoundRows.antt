@@ -7,7 +7,7 @@ use Rattle.std.proofs.lemmas.Option.{none-some, same_Some}
 use Rattle.std.proofs.lemmas.List.{length_push}
 use Rattle.std.proofs.lemmas.List.Sums.{position_or_len_is, sum_by-cons}
 use Rattle.std.proofs.lemmas.List.FromFn.{length-range_with_len, get_or-range_with_len}
-use Rattle.mark_base.specs.declared.places.TypeId.{TypeId}
+use Rattle.mark_base.specs.declared.table_places.TypeId.{TypeId}
 use Rattle.type_hierarchy.specs.declared.type_row.TypeRow.{TypeRow}
 use Rattle.type_hierarchy.specs.declared.types_fault.TypesFault.TheVariants.{NameTwice, BadParent, TooMany}
 use Rattle.type_hierarchy.specs.TypeTrees.{is_named, parent_of}

@@ -20,7 +20,7 @@ pub mod Kept
 pub mod KnownFiles
 pub mod KnownMacros
 pub mod Lookups
-pub mod NamesKnown
+pub mod NamePlaces
 pub mod ReadFaults
 pub mod Sound
 pub mod WorkedFiles

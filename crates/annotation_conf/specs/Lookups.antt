@@ -2,7 +2,7 @@
 use Rattle.std.specs.Prelude.{ℕ, ◌+◌, ◌||◌, ◌&&◌, Bool, true, false, not, List, [], length, take, nat_lt, Option, option_map, bytes_eq, if◌then◌else◌, count_by, slice_get}
 use Rattle.std.specs.Option.{option_map_or}
 use Rattle.std.specs.List.{list_any, position_from}
-use Rattle.mark_base.specs.declared.places.TypeId.{TypeId}
+use Rattle.mark_base.specs.declared.table_places.TypeId.{TypeId}
 use Rattle.mark_base.specs.declared.overlap.OvlKind.{OvlKind}
 use Rattle.mark_base.specs.declared.overlap.OvlKind.TheVariants.{Apart, Equal, Contains, Inside, Cross}
 use Rattle.type_hierarchy.specs.declared.type_row.TypeRow.{TypeRow}

@@ -3,7 +3,7 @@ ghost use Rattle.std.specs.Prelude.{◌≡◌, ◌≤◌, length, Ok, IfOk};
 ghost use Rattle.annotation_conf.specs.ConfOf.{configuration_of};
 ghost use Rattle.annotation_conf.specs.BuildTold.{IsFaultless};
 
-use crate::build_others::{attributes, overlaps, relations};
+use crate::build_links::{attributes, overlaps, relations};
 use crate::build_resolver::Resolver;
 use crate::build_roles::roles_of_types;
 use crate::build_types::{tree_of, type_rows};

@@ -6,8 +6,8 @@ ghost use Rattle.annotation_conf.specs.FileShows.{seen_alternative};
 ghost use Rattle.annotation_conf.specs.BuildPlaces.{names_in, place_in, IsTable, places_held, AreFirstPlaces, places_by, inserted};
 
 use crate::Places;
-use crate::faults_known::KnownNames;
 use crate::faults_macros::built_in;
+use crate::names_by_sort::KnownNames;
 use crate::pieces::Alternative;
 use mark_base::Memory;
 use std::alloc::Global;

@@ -7,8 +7,8 @@ ghost use Rattle.annotation_conf.specs.KnownMacros.{kinds_of};
 ghost use Rattle.annotation_conf.specs.BuildPlaces.{AreTables, places_held, AreFirstPlaces};
 
 use crate::build_places::{Table, gather_places, macro_lists};
-use crate::faults_known::KnownNames;
 use crate::faults_macros::{Kinds, KnownMacros, all_held};
+use crate::names_by_sort::KnownNames;
 use crate::pieces::Alternative;
 use crate::{Alternatives, Places};
 use mark_base::Memory;

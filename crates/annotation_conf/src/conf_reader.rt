@@ -1,5 +1,5 @@
 //! Reading annotation.conf.
-ghost use Rattle.std.specs.Prelude.{◌≡◌, ◌≤◌, ◌<◌, ◌+◌, ◌==◌, length, take, count_by, IfOk, IfErr, Ok, None};
+ghost use Rattle.std.specs.Prelude.{◌≡◌, ◌≤◌, ◌<◌, ◌+◌, length, take, IfOk, IfErr, Ok, None};
 ghost use Rattle.std.specs.Str.Lossy.{utf8_valid_len};
 ghost use Rattle.annotation_conf.specs.ConfNames.{file_of};
 ghost use Rattle.annotation_conf.specs.ConfOf.{conf_of};
@@ -8,21 +8,13 @@ ghost use Rattle.annotation_conf.specs.FileShows.{Shows};
 
 use crate::build::build;
 use crate::faults::any_fault;
-use crate::faults_known::KnownNames;
 use crate::faults_macros::KnownMacros;
 use crate::file::{File, read_file};
+use crate::names_by_sort::KnownNames;
 use crate::{Conf, ConfFault, ConfWhat};
-use mark_base::Memory;
+use mark_base::{Memory, count_line_ends};
 use std::alloc::Global;
 use std::str;
-
-/// How many lines end in some bytes.
-fn line_ends(bytes: &[u8]) -> usize
-    ensures value { result ≡ count_by (λ b. b == 10) bytes.now }
-    ensures bound { result ≤ length bytes.now }
-{
-    bytes.iter().filter(|byte| **byte == b'\n').count()
-}
 
 /// The configuration of the file of a text, or its first fault.
 fn conf_of_known(alloc: Global, text: &str, known: &KnownMacros) -> Result<Conf, ConfFault>
@@ -74,7 +66,7 @@ pub fn read_conf(alloc: Global, bytes: &[u8]) -> Result<Conf, ConfFault>
         Err(error) => {
             let valid = error.valid_up_to();
             Err(ConfFault::At {
-                line: line_ends(&bytes[..valid]) as u32 + 1,
+                line: count_line_ends(&bytes[..valid]) as u32 + 1,
                 what: ConfWhat::NotUtf8,
             })
         }

@@ -8,7 +8,6 @@ ghost use Rattle.annotation_conf.specs.KnownMacros.{AreFirstKinds, kinds_of_macr
 ghost use Rattle.annotation_conf.specs.FaultsTold.{too_deep, is_undeclared, names_no_type, unheld_in, type_told, mark_equivalence, agree_kept, agrees_with_first, relation_told, kinds_in, overlap_told, values_twice, target_names_nothing, target_unheld, targets_name_nothing, targets_unheld, has_many_values, many_values_in, attribute_told, macro_told};
 
 use crate::ConfWhat;
-use crate::faults_known::{KnownNames, MOST_ROWS};
 use crate::faults_macros::{
     Kinds, KnownMacros, held_macro, is_undeclared, is_unheld, names_no_type,
 };
@@ -19,6 +18,7 @@ use crate::faults_pairs::{
 use crate::faults_twice::{roles_stand_twice, words_stand_twice};
 use crate::file::{MacroLine, NamedLine, TypeLine};
 use crate::line_parts::{spells, split_at};
+use crate::names_by_sort::{KnownNames, MOST_ROWS};
 use crate::pieces::{Alternative, KeyedPair, RolePair, has_kinds_key};
 use mark_base::Memory;
 use std::alloc::Global;

@@ -8,8 +8,8 @@ ghost use Rattle.annotation_conf.specs.FileShows.{seen_alternative};
 ghost use Rattle.annotation_conf.specs.KnownFiles.{IsKnown};
 ghost use Rattle.annotation_conf.specs.KnownMacros.{kinds_of, kinds_of_macros, kinds_by, AreFirstKinds, AreBuiltIn, either_kinds};
 
-use crate::faults_known::KnownNames;
 use crate::file::File;
+use crate::names_by_sort::KnownNames;
 use crate::pieces::Alternative;
 use mark_base::Memory;
 use std::alloc::Global;

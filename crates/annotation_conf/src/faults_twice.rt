@@ -2,7 +2,7 @@
 ghost use Rattle.std.specs.Prelude.{◌≡◌, IfOk, map};
 ghost use Rattle.annotation_conf.specs.ConfFaults.{names_of, word_of, stands_twice};
 ghost use Rattle.annotation_conf.specs.FileShows.{seen_alternative, seen_pair};
-ghost use Rattle.annotation_conf.specs.NamesKnown.{seen_declared};
+ghost use Rattle.annotation_conf.specs.NamePlaces.{seen_declared};
 
 use crate::faults_pairs::word;
 use crate::known_names::DeclaredName;

@@ -2,7 +2,7 @@
 ghost use Rattle.std.specs.Prelude.{◌≡◌, ℕ, ◌+◌, ◌≤◌, nat_le, length, map, filter, not, IfOk, count_by};
 ghost use Rattle.annotation_conf.specs.ConfFaults.{Declared, stood_before, is_among, names_of, of_types, of_named};
 ghost use Rattle.annotation_conf.specs.FirstFaults.{IsRising};
-ghost use Rattle.annotation_conf.specs.NamesKnown.{seen_declared, place_among, firsts_among, FindsPlaces};
+ghost use Rattle.annotation_conf.specs.NamePlaces.{seen_declared, place_among, firsts_among, FindsPlaces};
 
 use mark_base::Memory;
 use std::alloc::Global;
@@ -29,7 +29,7 @@ impl<'a> Model for Names<'a> {
 
     ghost Value = { List Declared };
 
-    ghost use Rattle.annotation_conf.specs.NamesKnown.{seen_declared, AreKnown};
+    ghost use Rattle.annotation_conf.specs.NamePlaces.{seen_declared, AreKnown};
 
     ghost view = { λ names. map seen_declared names.lines.items };
 

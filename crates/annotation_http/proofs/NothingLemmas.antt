@@ -11,7 +11,7 @@ use Rattle.layer_model.specs.declared.mark.Mark.{Mark}
 use Rattle.layer_model.specs.declared.rule.Rule.{Rule}
 use Rattle.layer_model.specs.Annotations.{no_marks}
 use Rattle.layer_model.proofs.Coherence.{no_mark}
-use Rattle.layer_core.specs.Places.{by_place}
+use Rattle.layer_core.specs.FlawPlaces.{by_place}
 use Rattle.layer_core.specs.Rules.{unknown_type, unknown_class, not_for_use, class_not_for_use, bad_fragments, out_of_text, span_too_long, named_by, first_missing, wanted_by, member, first_unwanted, unknown_role, argument_type, too_many, unknown_value}
 use Rattle.layer_core.specs.PairRules.{too_deep, same_span, same_event, same_relation, attribute_there, equiv_members, overlap_refused, bad_text, layer_full, classes_full}
 use Rattle.layer_core.specs.WellFormed.{IsWellFormed, least_flaw, no_class}

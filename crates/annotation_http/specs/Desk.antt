@@ -18,7 +18,7 @@ use Rattle.ann_reader.specs.LineFaults.{Fault}
 use Rattle.ann_writer.specs.AnnOf.{ann_of}
 use Rattle.annotation_http.specs.declared.route.DeskRoute.{DeskRoute}
 use Rattle.annotation_http.specs.declared.route.DeskRoute.TheVariants as route
-use Rattle.layer_core.specs.RuleNames.{id_text}
+use Rattle.layer_core.specs.ShownNames.{id_text}
 use Rattle.annotation_http.specs.Refusals.{rule_answer, fault_answer}
 
 -- ---- the messages that are served, all for the caller `you`

@@ -6,7 +6,7 @@ use Rattle.annotation_conf.specs.Configurations.{Configuration}
 use Rattle.layer_model.specs.declared.rule.Rule.{Rule}
 use Rattle.layer_model.specs.RuleNames.{rule_name}
 use Rattle.layer_model.specs.Rules.{number_of}
-use Rattle.layer_core.specs.RuleNames.{named_by_rule}
+use Rattle.layer_core.specs.ShownNames.{named_by_rule}
 use Rattle.ann_reader.specs.declared.ann_fault.AnnWhat.{AnnWhat}
 use Rattle.ann_reader.specs.declared.ann_fault.AnnWhat.TheVariants as ann
 use Rattle.http_wire.specs.declared.answer.Answer.{Answer}

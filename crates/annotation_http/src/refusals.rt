@@ -4,7 +4,7 @@ ghost use Rattle.json.specs.Print.{quoted};
 ghost use Rattle.http.specs.StatusCode.{IsStatusCode};
 ghost use Rattle.serde_json.specs.View.{view};
 ghost use Rattle.layer_model.specs.RuleNames.{rule_name};
-ghost use Rattle.layer_core.specs.RuleNames.{named_by_rule};
+ghost use Rattle.layer_core.specs.ShownNames.{named_by_rule};
 ghost use Rattle.annotation_http.specs.Refusals.{fault_answer, line_members, line_refusal, refusal_of, rule_answer, rule_status};
 
 use ann_reader::AnnWhat;

@@ -2,18 +2,11 @@
 ghost use Rattle.std.specs.Prelude.{◌≡◌, ◌≤◌, length, chars, drop, encode_utf8_all, IfOk};
 ghost use Rattle.char_documents.specs.Checkpoints.{byte_of, IsMarked};
 
-use mark_base::Memory;
+use mark_base::{Memory, char_count};
 use std::alloc::Global;
 
 /// How many characters lie between two checkpoints.
 const SPACING: usize = 256;
-
-/// How many characters a text has.
-pub fn char_count(text: &str) -> usize
-    ensures { result ≡ length (chars text.now) }
-{
-    text.chars().count()
-}
 
 /// What stands behind the first characters of a text. Cost: their number.
 fn behind(text: &str, count: usize) -> &str

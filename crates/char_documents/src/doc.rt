@@ -3,9 +3,9 @@ ghost use Rattle.std.specs.Prelude.{◌≡◌, ◌≤◌, ◌<◌, ◌++◌, cha
 ghost use Rattle.char_documents.specs.Texts.{all_lie_in, covered, lies_in, reference_text, separator, shown};
 ghost use Rattle.char_documents.specs.Tokens.{tokens_of};
 
-use crate::checkpoints::{byte_of, char_count, checkpoints};
+use crate::checkpoints::{byte_of, checkpoints};
 use crate::tokens::tokens;
-use mark_base::{Frag, Memory, Text};
+use mark_base::{Frag, Memory, Text, char_count};
 use std::alloc::{AllocError, Global};
 use std::marker::Model;
 

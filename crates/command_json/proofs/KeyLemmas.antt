@@ -5,7 +5,7 @@ use Rattle.std.specs.List.{list_all}
 use Rattle.std.specs.declared.alloc.Global.{Global}
 use Rattle.serde_json.specs.declared.value.Value.{Value}
 use Rattle.serde_json.specs.View.{members_view}
-use Rattle.command_json.specs.Fields.{keys_of}
+use Rattle.command_json.specs.BodyFields.{keys_of}
 
 -- what all keys of a map pass, all keys of its object pass
 pub keys_view : (test : List ℕ → Bool) (entries : List (String Global × Value))

@@ -10,8 +10,8 @@ use Rattle.layer_core.specs.declared.command.Command.{Command}
 use Rattle.layer_core.specs.declared.command.Command.TheVariants as ask
 use Rattle.command_json.specs.declared.spelling.StoreEntry.{StoreEntry}
 use Rattle.command_json.specs.Spellings.{of_two, of_three}
-use Rattle.command_json.specs.Fields.{has_only, text_at}
-use Rattle.command_json.specs.Forms.{Form, forms, form_of, spelt_by}
+use Rattle.command_json.specs.BodyFields.{has_only, text_at}
+use Rattle.command_json.specs.BodyForms.{Form, forms, form_of, spelt_by}
 use Rattle.command_json.specs.Bodies.{command_in, value_of, command_of}
 
 abbrev is_load : Command → Bool

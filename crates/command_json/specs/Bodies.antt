@@ -4,8 +4,8 @@ use Rattle.std.specs.Str.{is_utf8}
 use Rattle.serde_json.specs.Data.{Data}
 use Rattle.serde_json.specs.Read.{read}
 use Rattle.layer_core.specs.declared.command.Command.{Command}
-use Rattle.command_json.specs.Fields.{text_at}
-use Rattle.command_json.specs.Forms.{form_of, spelt_by}
+use Rattle.command_json.specs.BodyFields.{text_at}
+use Rattle.command_json.specs.BodyForms.{form_of, spelt_by}
 
 -- the command that a JSON value spells, by the form of the word at `do`
 abbrev pub command_in : Data → Option Command

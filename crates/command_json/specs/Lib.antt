@@ -1,4 +1,4 @@
 pub mod Bodies
-pub mod Fields
-pub mod Forms
+pub mod BodyFields
+pub mod BodyForms
 pub mod Spellings

@@ -1,10 +1,11 @@
 -- How fragments, names, arguments and entries of stores are spelt in the texts of a command.
-use Rattle.std.specs.Prelude.{ℕ, ◌==◌, Bool, List, [], ◌∷◌, map, Option, Some, None, is_none, option_map, option_and_then, if◌then◌else◌}
+use Rattle.std.specs.Prelude.{ℕ, ◌==◌, Bool, List, map, Option, Some, None, is_none, option_map, option_and_then, if◌then◌else◌}
 use Rattle.std.specs.List.{list_any, before_first, after_first, slice_split}
 use Rattle.mark_base.specs.declared.ann_id.AnnId.{AnnId}
 use Rattle.mark_base.specs.declared.fragments.Frag.{Frag}
 use Rattle.mark_base.specs.declared.named_args.NamedArg.{NamedArg}
 use Rattle.mark_base.specs.AnnIds.{number_read}
+pub use Rattle.mark_base.specs.Lists.{all_of}
 use Rattle.mark_base.specs.Names.{name_fault}
 use Rattle.mark_base.specs.ReadIds.{id_read}
 use Rattle.command_json.specs.declared.spelling.StoreEntry.{StoreEntry}
@@ -16,11 +17,6 @@ of_two make one two = option_and_then (λ a. option_map (make a) two) one
 -- what is made of three parts, where all are there
 abbrev pub of_three : {A B C Z : Type 0} → (A → B → C → Z) → Option A → Option B → Option C → Option Z
 of_three make one two three = option_and_then (λ a. of_two (make a) two three) one
-
--- each of some, where each is there
-abbrev pub all_of : {X : Type 0} → List (Option X) → Option (List X)
-all_of [] = Some []
-all_of (one ∷ more) = of_two (λ x xs. x ∷ xs) one (all_of more)
 
 -- ---- a text by its parts
 

@@ -1,15 +1,16 @@
 //! The command that a body spells.
 ghost use Rattle.std.specs.Prelude.{◌≡◌, Some, None, IfOk, IfErr, option_map, option_and_then};
 ghost use Rattle.serde_json.specs.View.{view};
-ghost use Rattle.command_json.specs.Forms.{form_of, spelt_by};
+ghost use Rattle.command_json.specs.BodyForms.{form_of, spelt_by};
 ghost use Rattle.command_json.specs.Bodies.{command_in, value_of, command_of};
 ghost use Rattle.command_json.specs.declared.command_fault.CommandFault.TheVariants.{BadBody};
 
+use crate::body_fields::text_at;
 use crate::command_fault::CommandFault;
 use crate::event_forms::{add_arg, add_event, remove_arg};
-use crate::fields::text_at;
 use crate::link_forms::{add_relation, clear_attribute, equate, set_attribute, unequate};
-use crate::note_forms::{delete, purge, set_note, set_reference};
+use crate::note_forms::{set_note, set_reference};
+use crate::removal_forms::{delete, purge};
 use crate::span_forms::{add_span, move_span, retype};
 use layer_core::Command;
 use mark_base::Memory;
@@ -77,7 +78,7 @@ fn spelt_command(alloc: Global, body: &[u8]) -> Result<Option<Command>, Memory>
     }
 }
 
-/// Reads a command from the body of a message: a JSON object of one of the forms of `specs/Forms.antt`, in
+/// Reads a command from the body of a message: a JSON object of one of the forms of `specs/BodyForms.antt`, in
 /// which the last value of a repeated key counts. Names, IDs and fragments are tested by their spelling alone,
 /// and not against a configuration or a layer. Bytes that are not UTF-8 are a body of no form, and so is JSON
 /// that nests deeper than 127 levels or has a number beyond the range of a float, wherever that stands.

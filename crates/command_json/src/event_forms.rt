@@ -1,9 +1,9 @@
 //! The bodies that spell commands on events.
 ghost use Rattle.std.specs.Prelude.{◌≡◌, IfOk};
 ghost use Rattle.serde_json.specs.View.{view};
-ghost use Rattle.command_json.specs.Forms.{spelt_by, add_event, add_arg, remove_arg};
+ghost use Rattle.command_json.specs.BodyForms.{spelt_by, add_event, add_arg, remove_arg};
 
-use crate::fields::{ann_id_at, argument_at, has_only, name_at};
+use crate::body_fields::{ann_id_at, argument_at, has_only, name_at};
 use crate::lists::arguments_at;
 use layer_core::Command;
 use mark_base::Memory;

@@ -1,9 +1,9 @@
 //! The bodies that spell commands on relations, attributes and classes.
 ghost use Rattle.std.specs.Prelude.{◌≡◌, IfOk};
 ghost use Rattle.serde_json.specs.View.{view};
-ghost use Rattle.command_json.specs.Forms.{spelt_by, add_relation, set_attribute, clear_attribute, equate, unequate};
+ghost use Rattle.command_json.specs.BodyForms.{spelt_by, add_relation, set_attribute, clear_attribute, equate, unequate};
 
-use crate::fields::{ann_id_at, has_only, name_at, name_if_there};
+use crate::body_fields::{ann_id_at, has_only, name_at, name_if_there};
 use crate::lists::ann_ids_at;
 use layer_core::Command;
 use mark_base::Memory;

@@ -4,7 +4,7 @@ ghost use Rattle.serde_json.specs.Find.{as_str};
 ghost use Rattle.serde_json.specs.View.{view, items_view};
 ghost use Rattle.mark_base.specs.ReadIds.{id_read};
 ghost use Rattle.command_json.specs.Spellings.{argument_read};
-ghost use Rattle.command_json.specs.Fields.{each_read, list_at, ann_ids_at, arguments_at};
+ghost use Rattle.command_json.specs.BodyFields.{each_read, list_at, ann_ids_at, arguments_at};
 
 use crate::spelling::argument_read;
 use mark_base::{AnnId, IdList, Memory, NamedArg, NamedArgs};

@@ -1,9 +1,9 @@
-//! The bodies that spell commands on notes and references, and on any annotation.
+//! The bodies that spell commands on notes and references.
 ghost use Rattle.std.specs.Prelude.{◌≡◌, IfOk};
 ghost use Rattle.serde_json.specs.View.{view};
-ghost use Rattle.command_json.specs.Forms.{spelt_by, set_note, set_reference, delete, purge};
+ghost use Rattle.command_json.specs.BodyForms.{spelt_by, set_note, set_reference};
 
-use crate::fields::{ann_id_at, copied_text, entry_at, has_only, name_at};
+use crate::body_fields::{ann_id_at, copied_text, entry_at, has_only, name_at};
 use crate::spelling::StoreEntry;
 use layer_core::Command;
 use mark_base::Memory;
@@ -51,30 +51,4 @@ pub(crate) fn set_reference(alloc: Global, body: &Value) -> Result<Option<Comman
         entry,
         text,
     }))
-}
-
-/// An annotation is taken away.
-pub(crate) fn delete(alloc: Global, body: &Value) -> Result<Option<Command>, Memory>
-    ensures { IfOk result (λ found. found ≡ spelt_by (view body.now) delete) }
-{
-    if !has_only(body, &["do", "id"]) {
-        return Ok(None);
-    }
-    let Some(id) = ann_id_at(body, "id") else {
-        return Ok(None);
-    };
-    Ok(Some(Command::Delete { id }))
-}
-
-/// An annotation is taken away with all that names it.
-pub(crate) fn purge(alloc: Global, body: &Value) -> Result<Option<Command>, Memory>
-    ensures { IfOk result (λ found. found ≡ spelt_by (view body.now) purge) }
-{
-    if !has_only(body, &["do", "id"]) {
-        return Ok(None);
-    }
-    let Some(id) = ann_id_at(body, "id") else {
-        return Ok(None);
-    };
-    Ok(Some(Command::Purge { id }))
 }

@@ -1,12 +1,13 @@
 //! How numbers, IDs, fragments, names, arguments and entries of stores are spelt in the texts of a command.
-ghost use Rattle.std.specs.Prelude.{◌≡◌, ◌==◌, map, IfOk, option_map};
-ghost use Rattle.std.specs.List.{slice_split};
+ghost use Rattle.std.specs.Prelude.{◌≡◌, map, IfOk, option_map};
 ghost use Rattle.mark_base.specs.AnnIds.{number_read};
 ghost use Rattle.mark_base.specs.ReadIds.{id_read};
 ghost use Rattle.command_json.specs.Spellings.{of_two, all_of, frag_of, frag_read, frags_read, name_read, argument_of, argument_read, entry_read};
 
-use mark_base::{AnnId, Frag, FragList, Memory, Name, NameFault, NamedArg, Text, number_read};
-use std::alloc::{AllocError, Global};
+use mark_base::{
+    AnnId, Frag, FragList, Memory, Name, NameFault, NamedArg, Text, number_read, split_fragments,
+};
+use std::alloc::Global;
 
 /// The fragment of a start and an end.
 fn frag_between(start: &str, end: &str) -> Option<Frag>
@@ -26,13 +27,6 @@ fn frag_read(text: &str) -> Option<Frag>
         Some((start, end)) => frag_between(start, end),
         None => None,
     }
-}
-
-/// What semicolons separate.
-fn split_fragments(alloc: Global, text: &str) -> Result<Vec<&str>, AllocError>
-    ensures { IfOk result (λ pieces. map (λ piece. piece.now) pieces.items ≡ slice_split (λ b. b == 59) text.now) }
-{
-    text.split(';').collect(alloc)
 }
 
 /// The fragments that pieces spell, where each spells one.

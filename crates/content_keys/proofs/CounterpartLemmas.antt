@@ -5,7 +5,7 @@ use Rattle.std.proofs.lemmas.List.{take_more}
 use Rattle.std.proofs.lemmas.Bool.Decides.{eqb_tells}
 use Rattle.mark_base.specs.declared.ann_id.AnnId.{AnnId}
 use Rattle.layer_model.specs.Classes.{rank}
-use Rattle.content_keys.specs.declared.places.Placed.{Placed}
+use Rattle.content_keys.specs.declared.placed_layer.Placed.{Placed}
 use Rattle.content_keys.specs.Nodes.{Node}
 use Rattle.content_keys.specs.Tables.{IsPlace, IsTable, values}
 use Rattle.content_keys.specs.Carrying.{AreMoves, move_at}

@@ -7,7 +7,7 @@ use Rattle.std.specs.BTreeMap.{BTreeMap}
 use Rattle.mark_base.specs.declared.ann_id.AnnId.{AnnId}
 use Rattle.layer_model.specs.Annotations.{Annotations}
 use Rattle.layer_model.specs.Layers.{IsLayer}
-use Rattle.content_keys.specs.declared.places.Placed.{Placed}
+use Rattle.content_keys.specs.declared.placed_layer.Placed.{Placed}
 use Rattle.content_keys.specs.Nodes.{IsIn, Names, Node, number}
 use Rattle.content_keys.specs.Contents.{IsBuilt}
 use Rattle.content_keys.specs.Tables.{MayAdd, values}

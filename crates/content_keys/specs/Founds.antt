@@ -2,7 +2,7 @@
 use Rattle.std.specs.Prelude.{◌==◌, ℕ, List, [], ◌∷◌, Option, Some, None, option_and_then, if◌then◌else◌}
 use Rattle.mark_base.specs.declared.ann_id.AnnId.{AnnId}
 use Rattle.content_keys.specs.declared.counterparts.Found.{Found}
-use Rattle.content_keys.specs.declared.places.Placed.{Placed}
+use Rattle.content_keys.specs.declared.placed_layer.Placed.{Placed}
 use Rattle.content_keys.specs.Carrying.{move_at}
 
 -- the annotation and its counterpart

@@ -6,7 +6,6 @@ use Rattle.mark_base.specs.declared.ann_id.Kind.{Kind}
 use Rattle.mark_base.specs.declared.ann_id.Kind.TheVariants as letter
 use Rattle.mark_base.specs.declared.arguments.Arg.{Arg}
 use Rattle.mark_base.specs.declared.fragments.Frag.{Frag}
-use Rattle.mark_base.specs.ReadIds.{id_at}
 use Rattle.layer_model.specs.declared.span.Span.{Span}
 use Rattle.layer_model.specs.declared.event.Event.{Event}
 use Rattle.layer_model.specs.declared.relation.Relation.{Relation}
@@ -17,7 +16,8 @@ use Rattle.layer_model.specs.declared.mark.Mark.TheVariants as marked
 use Rattle.layer_model.specs.declared.class.Class.{Class}
 use Rattle.layer_model.specs.Annotations.{Annotations}
 use Rattle.layer_model.specs.Coherent.{trigger_id}
-use Rattle.layer_model.specs.Layers.{mark_at, numbers}
+pub use Rattle.layer_model.specs.LayerIds.{ids_of_letter}
+use Rattle.layer_model.specs.Layers.{mark_at}
 use Rattle.content_keys.specs.Nodes.{Node, number}
 use Rattle.content_keys.specs.Contents.{content}
 
@@ -92,10 +92,6 @@ content_of layer id = content_in (mark_at layer) id
 -- the letters of annotations that have a content, in their order: T, E, R, A, M and N
 abbrev pub letters : List Kind
 letters = letter.Text ∷ letter.Event ∷ letter.Relation ∷ letter.Attribute ∷ letter.Legacy ∷ letter.Normal ∷ []
-
--- the IDs of a layer of one letter
-abbrev pub ids_of_letter : Annotations → Kind → List AnnId
-ids_of_letter layer kind = map (id_at kind) (numbers layer kind)
 
 -- the IDs of a layer that have a content, in their order
 abbrev pub ids_of : Annotations → List AnnId

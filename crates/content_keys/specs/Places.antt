@@ -5,7 +5,7 @@ use Rattle.std.specs.BTreeMap.{BTreeMap, get}
 use Rattle.mark_base.specs.declared.ann_id.AnnId.{AnnId}
 use Rattle.layer_model.specs.Annotations.{Annotations}
 use Rattle.layer_model.specs.Classes.{rank}
-use Rattle.content_keys.specs.declared.places.Placed.{Placed}
+use Rattle.content_keys.specs.declared.placed_layer.Placed.{Placed}
 use Rattle.content_keys.specs.Nodes.{Node}
 use Rattle.content_keys.specs.Contents.{IsBuilt}
 use Rattle.content_keys.specs.LayerContents.{node_of, content_of}

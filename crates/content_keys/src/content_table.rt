@@ -5,7 +5,7 @@ ghost use Rattle.content_keys.specs.LayerContents.{class_contents_of, contents_o
 ghost use Rattle.content_keys.specs.Places.{contents_at};
 ghost use Rattle.content_keys.specs.Tables.{Starts};
 
-use crate::places::{PlacedLayer, layer_placed_in};
+use crate::placed_layer::{PlacedLayer, layer_placed_in};
 use crate::table::Table;
 use layer_model::Layer;
 use mark_base::Memory;

@@ -8,7 +8,7 @@ ghost use Rattle.content_keys.specs.LayerContents.{contents_of};
 
 use crate::carrying::move_at;
 use crate::counterparts::{Counterparts, Found};
-use crate::places::{Placed, placed_in};
+use crate::placed_layer::{Placed, placed_in};
 use crate::table::Table;
 use layer_model::Layer;
 use mark_base::{AnnId, Memory};

@@ -30,7 +30,7 @@ mod ids;
 mod keys;
 mod laws;
 mod parts;
-mod places;
+mod placed_layer;
 mod shape;
 mod table;
 mod word;
@@ -43,5 +43,5 @@ pub use crate::laws::{
     bags_are_counts, coherent_layers_are_built, contents_are_their_parts, counterparts_are_lowest,
     one_annotation_has_a_content,
 };
-pub use crate::places::{Placed, PlacedLayer};
+pub use crate::placed_layer::{Placed, PlacedLayer};
 pub use crate::worked_rows::{examples_of_contents, examples_of_counterparts};

@@ -1,7 +1,7 @@
 -- Empty lines can still become a head.
 use Rattle.std.proofs.lemmas.Bool.Decides.{eqb_tells}
 use Rattle.std.proofs.Math.Dec.{eqb}
-use Rattle.http_wire.specs.Taking.{empty_lines_after}
+use Rattle.http_wire.specs.NextMessage.{empty_lines_after}
 use Rattle.http_wire.specs.Messages.{IsEmptyLines}
 use Rattle.std.proofs.Common.{◌≡◌, ◌≢◌, ◌⊎◌, inl, inr, true, false, ℕ, zero, suc, ◌<◌, List, [], ◌∷◌, ◌++◌, refl, lit<, lit≤}
 use Rattle.std.proofs.lemmas.List.Elements.{All-cons, All-nil}

@@ -7,7 +7,7 @@ use Rattle.http_wire.specs.declared.stop.Stop.{Stop}
 use Rattle.http_wire.specs.Heads.{IsHeadOf}
 use Rattle.http_wire.specs.Inbox.{HoldsNext}
 use Rattle.http_wire.specs.Messages.{LacksHead}
-use Rattle.http_wire.specs.Taking.{HoldsHead}
+use Rattle.http_wire.specs.NextMessage.{HoldsHead}
 use Rattle.http_wire.proofs.MessageLemmas.{one_head, one_size}
 
 -- a whole head stands there

@@ -11,7 +11,7 @@ use Rattle.http_wire.specs.declared.stop.Stop.TheVariants.{End, Cut, BadHead, To
 use Rattle.http_wire.specs.Heads.{AlwaysStops, IsFault, IsHeadOf}
 use Rattle.http_wire.specs.Inbox.{StopsAsDefined, TakesMessage}
 use Rattle.http_wire.specs.Messages.{IsEmptyLines, LacksBody, LacksHead, ReadsMessage, StandsHead, StopsWith}
-use Rattle.http_wire.specs.Taking.{BytesStop, IsFrontMessage, IsFrontOf, empty_lines_after}
+use Rattle.http_wire.specs.NextMessage.{BytesStop, IsFrontMessage, IsFrontOf, empty_lines_after}
 use Rattle.http_wire.proofs.BlankLemmas.{blank_head, blank_reads, blank_tail, empty_no, empty_yes}
 use Rattle.http_wire.proofs.HeadLemmas.{head_more}
 use Rattle.http_wire.proofs.WindowLemmas.{stands_more}

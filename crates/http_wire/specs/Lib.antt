@@ -3,4 +3,4 @@ pub mod Fields
 pub mod Heads
 pub mod Inbox
 pub mod Messages
-pub mod Taking
+pub mod NextMessage

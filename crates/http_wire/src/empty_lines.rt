@@ -1,6 +1,6 @@
 //! Empty lines between two messages.
 ghost use Rattle.std.specs.Prelude.{◌≡◌, false};
-ghost use Rattle.http_wire.specs.Taking.{empty_lines_after};
+ghost use Rattle.http_wire.specs.NextMessage.{empty_lines_after};
 
 /// Whether the bytes are empty lines and nothing else.
 pub fn is_empty_lines(bytes: &[u8]) -> bool

@@ -61,7 +61,7 @@ pub fn read_head(alloc: Global, buf: &[u8], spans: &mut [HeaderSpan]) -> Result<
 {
     let window = front(buf);
     match parse_request(window, spans) {
-        Ok(Status::Complete(found)) => settle(alloc, window, spans, found),
+        Ok(Status::Complete(found)) => judge_head(alloc, window, spans, found),
         Ok(Status::Partial) => {
             if buf.len() < LONGEST_HEAD {
                 Ok(HeadStep::More)
@@ -116,7 +116,7 @@ fn copy_value(alloc: Global, value: Option<&[u8]>) -> Result<Option<Text>, Memor
 }
 
 /// Judges a whole head, and copies its parts.
-fn settle(
+fn judge_head(
     alloc: Global,
     buf: &[u8],
     spans: &[HeaderSpan],

@@ -5,7 +5,7 @@ ghost use Rattle.mark_base.specs.Streams.{OnlyReads, TellsFault};
 ghost use Rattle.http_wire.specs.Inbox.{HoldsNext, StopsAsDefined, TakesMessage};
 
 use crate::head::FIELD_ROOM;
-use crate::take::take_message;
+use crate::next_message::take_message;
 use crate::{Message, Stop};
 use httparse::spans::{EMPTY_HEADER_SPAN, HeaderSpan};
 use mark_base::{Link, Memory};

@@ -21,8 +21,8 @@ mod fields;
 mod head;
 mod inbox;
 mod message;
+mod next_message;
 mod stop;
-mod take;
 mod unable;
 mod words;
 

@@ -28,7 +28,7 @@ mod diagonal;
 mod document;
 mod figures;
 mod kappa;
-mod moves;
+mod label_moves;
 mod pairs;
 mod rows;
 mod shift;

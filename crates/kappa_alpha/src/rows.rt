@@ -5,7 +5,7 @@ ghost use Rattle.kappa_alpha.specs.Steps.{standing, same_label, move_steps, row_
 ghost use Rattle.kappa_alpha.specs.Counted.{Count, IsIn, IsWhole, SameShape, RowsFit, RowFits, adds, held};
 
 use crate::column::{is_same, label, read_column};
-use crate::moves::move_label;
+use crate::label_moves::move_label;
 use crate::tallies::Tallies;
 use label_tracks::LabelRow;
 use mark_base::Steps;

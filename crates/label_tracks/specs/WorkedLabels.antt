@@ -1,7 +1,7 @@
 -- A small tree of types and the spans of one text, worked out by hand.
 use Rattle.std.specs.Prelude.{ℕ, Bool, true, false, List, [], ◌∷◌, Option, Some, None}
 use Rattle.mark_base.specs.declared.fragments.Frag.{Frag}
-use Rattle.mark_base.specs.declared.places.TypeId.{TypeId}
+use Rattle.mark_base.specs.declared.table_places.TypeId.{TypeId}
 use Rattle.type_hierarchy.specs.declared.type_row.TypeRow.{TypeRow}
 use Rattle.layer_model.specs.declared.span.Span.{Span}
 

@@ -15,7 +15,7 @@ use Rattle.layer_model.specs.declared.event.Event.{Event}
 use Rattle.layer_model.specs.Annotations.{Annotations}
 use Rattle.layer_model.proofs.Maps.{inserted, same_list}
 use Rattle.layer_core.specs.PairRules.{begins_longer_chain, is_event_id}
-use Rattle.layer_core.specs.Chains.{HoldsChains, is_held}
+use Rattle.layer_core.specs.EventChains.{HoldsChains, is_held}
 use Rattle.layer_core.proofs.PlaceLemmas.{entries_found}
 
 -- the event of a number has an argument that begins a chain of more than so many events

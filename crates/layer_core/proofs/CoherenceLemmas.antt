@@ -10,7 +10,7 @@ use Rattle.std.specs.FinMap as finite
 use Rattle.mark_base.specs.declared.ann_id.AnnId.{AnnId}
 use Rattle.mark_base.specs.declared.ann_id.Kind.{Kind}
 use Rattle.mark_base.specs.declared.ann_id.Kind.TheVariants as letter
-use Rattle.mark_base.specs.declared.places.TypeId.{TypeId}
+use Rattle.mark_base.specs.declared.table_places.TypeId.{TypeId}
 use Rattle.mark_base.specs.declared.arguments.Arg.{Arg}
 use Rattle.mark_base.specs.declared.fragments.Frag.{Frag}
 use Rattle.annotation_conf.specs.Configurations.{Configuration}
@@ -32,8 +32,8 @@ use Rattle.layer_model.specs.Span.{same_fragments}
 use Rattle.layer_model.specs.Coherent as whole
 use Rattle.layer_model.specs.Coherent.{begins_chain as chain_of}
 use Rattle.mark_base.specs.ReadIds.{id_at}
-use Rattle.layer_core.specs.Ids.{ids_of}
-use Rattle.layer_core.specs.Places.{by_place, first_place}
+use Rattle.layer_model.specs.LayerIds.{ids_of}
+use Rattle.layer_core.specs.FlawPlaces.{by_place, first_place}
 use Rattle.layer_core.specs.Targets.{is_argument, is_attribute_target, is_member, is_normal_target, is_note_target}
 use Rattle.layer_core.specs.Rules.{where_so, named_by, first_missing, Wanted, argument, member, first_unwanted, wanted_by}
 use Rattle.layer_core.specs.PairRules.{begins_longer_chain, is_arg, is_event_id, letter_is_event, lower_pair, same_attributes, same_bag, same_events, same_relations, same_spans, attribute_there, too_deep}

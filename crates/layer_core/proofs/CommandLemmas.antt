@@ -8,7 +8,7 @@ use Rattle.layer_model.specs.Annotations.{Annotations}
 use Rattle.layer_model.specs.Rules.{number_of}
 use Rattle.layer_core.specs.declared.command.Command.{Command}
 use Rattle.layer_core.specs.WellFormed.{IsWellFormed, least_flaw}
-use Rattle.layer_core.specs.Drafts.{Draft, draft}
+use Rattle.layer_core.specs.MadeLayers.{Draft, draft}
 use Rattle.layer_core.specs.Commands.{lower_rule, own_rule, draft_rule, refusal, applied_of, answer_of, apply, Applied}
 use Rattle.layer_core.proofs.LawLemmas.{unflawed_is_well_formed}
 

@@ -13,8 +13,8 @@ use Rattle.std.proofs.Math.Bridge.{le_prop}
 use Rattle.mark_base.specs.declared.ann_id.Kind.{Kind}
 use Rattle.mark_base.specs.declared.ann_id.Kind.TheVariants as letter
 use Rattle.mark_base.specs.declared.arguments.Arg.{Arg}
-use Rattle.mark_base.specs.declared.places.TypeId.{TypeId}
-use Rattle.layer_core.specs.Drafts.{with_new}
+use Rattle.mark_base.specs.declared.table_places.TypeId.{TypeId}
+use Rattle.layer_core.specs.MadeLayers.{with_new}
 use Rattle.layer_model.specs.declared.mark.Mark.{Mark}
 use Rattle.layer_model.specs.declared.mark.Mark.TheVariants as marked
 use Rattle.layer_model.specs.Annotations.{Annotations}

@@ -9,9 +9,9 @@ use Rattle.std.specs.FinMap.{nat_cmp-IsAntisymmetric, slice_cmp-IsAntisymmetric}
 use Rattle.std.specs.declared.cmp.Ordering.{Ordering}
 use Rattle.std.specs.declared.cmp.Ordering.TheVariants.{Less, Equal, Greater}
 use Rattle.mark_base.specs.declared.ann_id.AnnId.{AnnId}
-use Rattle.layer_core.specs.declared.first_seen.KeyedId.{KeyedId}
-use Rattle.layer_core.specs.declared.first_seen.Repeat.{Repeat}
-use Rattle.layer_core.specs.FirstSeen.{first_with, repeat_after, same_numbers, shown}
+use Rattle.layer_core.specs.declared.repeats.KeyedId.{KeyedId}
+use Rattle.layer_core.specs.declared.repeats.Repeat.{Repeat}
+use Rattle.layer_core.specs.Repeats.{first_with, repeat_after, same_numbers, shown}
 
 tied : (r : Ordering) → is_eq r ≡ true → r ≡ Equal
 tied Less p = cc

@@ -9,7 +9,7 @@ use Rattle.layer_model.specs.declared.flaw.Flaw.{Flaw}
 use Rattle.layer_model.specs.declared.flaw.FlawPlace.TheVariants as at
 use Rattle.layer_model.specs.Rules.{number_of}
 use Rattle.mark_base.specs.ReadIds.{id_at}
-use Rattle.layer_core.specs.Walk.{lower_flaw, lowest_of, lowest_from, flaw_at}
+use Rattle.layer_core.specs.LowestFlaw.{lower_flaw, lowest_of, lowest_from, flaw_at}
 
 pub lower-None : (a : Option Flaw) → lower_flaw a None ≡ a
 lower-None None = refl

@@ -14,8 +14,8 @@ use Rattle.layer_model.specs.Layers.{without, without_number, with_classes}
 use Rattle.layer_model.proofs.ClassPart.{parted_kept}
 use Rattle.layer_model.proofs.ClassGone.{is_held, parted_absent, parted_held, parted_twice}
 use Rattle.layer_model.proofs.IdSets.{has_rank-ascending}
-use Rattle.layer_core.specs.Drafts.{gone, parted_from}
-use Rattle.layer_core.specs.Falls.{HoldMembers}
+use Rattle.layer_core.specs.MadeLayers.{gone, parted_from}
+use Rattle.layer_core.specs.Cascade.{HoldMembers}
 
 -- ---- the types of the classes, each once
 

@@ -1,7 +1,7 @@
 -- The first span that overlaps a lower one as the configuration does not allow, with an index of the spans before.
 use Rattle.std.proofs.Common.{◌≡◌, ℕ, ◌<◌, zero, suc, Bool, true, false, not, ◌&&◌, ◌||◌, cond, T, List, [], ◌∷◌, ◌++◌, length, nat_eq, nat_lt, refl, sym, ◌∙◌, ap, subst, Option, Some, None, append_assoc, arith, tests}
 use Rattle.std.proofs.lemmas.Bool.{lt-ltb}
-use Rattle.mark_base.specs.declared.places.TypeId.{TypeId}
+use Rattle.mark_base.specs.declared.table_places.TypeId.{TypeId}
 use Rattle.layer_model.specs.Classes.{rank}
 use Rattle.std.specs.Option.{option_or, option_map, option_map_or}
 use Rattle.std.specs.List.{AllByRecursion, list_any}
@@ -34,12 +34,12 @@ use Rattle.layer_model.specs.declared.flaw.FlawPlace.TheVariants as at
 use Rattle.layer_model.specs.Annotations.{Annotations}
 use Rattle.layer_model.specs.Layers.{IsLayer}
 use Rattle.mark_base.specs.ReadIds.{id_at}
-use Rattle.layer_core.specs.Ids.{ids_of}
-use Rattle.layer_core.specs.Places.{first_place, places}
+use Rattle.layer_model.specs.LayerIds.{ids_of}
+use Rattle.layer_core.specs.FlawPlaces.{first_place, places}
 use Rattle.layer_core.specs.SpanRules.{are_fragments}
 use Rattle.layer_core.specs.PairRules.{overlap_refused, refused_overlap}
 use Rattle.layer_core.specs.WellFormed.{at_overlap_refused}
-use Rattle.layer_core.specs.Walk.{HasGoodSpans, flaw_at, refuses}
+use Rattle.layer_core.specs.LowestFlaw.{HasGoodSpans, flaw_at, refuses}
 use Rattle.layer_core.proofs.FlawLemmas.{or-None}
 use Rattle.layer_core.proofs.PassLemmas.{only_spans}
 use Rattle.layer_core.proofs.PlaceLemmas.{all_entries, along, each_found, entries_found}

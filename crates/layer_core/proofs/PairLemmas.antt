@@ -24,10 +24,10 @@ use Rattle.layer_model.specs.Classes.{letter_place, rank}
 use Rattle.layer_model.specs.Layers.{mark_at, mark_of, numbers}
 use Rattle.layer_model.specs.Numbers.{NumbersFit}
 use Rattle.mark_base.specs.ReadIds.{id_at}
-use Rattle.layer_core.specs.Ids.{ids_of, ids_of_letter}
-use Rattle.layer_core.specs.Walk.{first_among, flaw_at}
-use Rattle.layer_core.specs.FirstSeen.{first_with, keyed, repeat_after, same_numbers}
-use Rattle.layer_core.specs.declared.first_seen.Repeat.{Repeat}
+use Rattle.layer_model.specs.LayerIds.{ids_of, ids_of_letter}
+use Rattle.layer_core.specs.LowestFlaw.{first_among, flaw_at}
+use Rattle.layer_core.specs.Repeats.{first_with, keyed, repeat_after, same_numbers}
+use Rattle.layer_core.specs.declared.repeats.Repeat.{Repeat}
 use Rattle.layer_core.proofs.FlawLemmas.{or_assoc}
 use Rattle.layer_core.proofs.PlaceLemmas.{entries_found}
 

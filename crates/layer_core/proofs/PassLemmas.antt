@@ -18,9 +18,9 @@ use Rattle.layer_model.specs.Annotations.{Annotations}
 use Rattle.layer_model.specs.Layers.{IsLayer, mark_of, numbers}
 use Rattle.layer_model.specs.Numbers.{NumbersFit}
 use Rattle.mark_base.specs.ReadIds.{id_at}
-use Rattle.layer_core.specs.Places.{by_place, first_place, places}
+use Rattle.layer_core.specs.FlawPlaces.{by_place, first_place, places}
 use Rattle.layer_core.specs.WellFormed.{no_class}
-use Rattle.layer_core.specs.Walk.{first_among, first_from, flaw_at}
+use Rattle.layer_core.specs.LowestFlaw.{first_among, first_from, flaw_at}
 use Rattle.layer_core.proofs.FlawLemmas.{or-None}
 use Rattle.layer_core.proofs.PlaceLemmas.{at_entries, by_letters, class_places, first-append, first_keys, places_of}
 

@@ -24,9 +24,9 @@ use Rattle.layer_model.specs.Layers.{mark_of}
 use Rattle.layer_model.specs.Numbers.{NumbersFit}
 use Rattle.layer_model.proofs.Maps.{same_list}
 use Rattle.mark_base.specs.ReadIds.{id_at}
-use Rattle.layer_core.specs.Ids.{ids_of_letter}
-use Rattle.layer_core.specs.Places.{by_place, first_place, places}
-use Rattle.layer_core.specs.Walk.{flaw_at, lower_flaw, lowest_at, lowest_of, lowest_from, first_among}
+use Rattle.layer_model.specs.LayerIds.{ids_of_letter}
+use Rattle.layer_core.specs.FlawPlaces.{by_place, first_place, places}
+use Rattle.layer_core.specs.LowestFlaw.{flaw_at, lower_flaw, lowest_at, lowest_of, lowest_from, first_among}
 use Rattle.layer_core.proofs.FlawLemmas.{lower_assoc, or_assoc}
 
 -- ---- the entries of a map are what it has

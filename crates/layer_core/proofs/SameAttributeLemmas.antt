@@ -13,12 +13,12 @@ use Rattle.layer_model.specs.Layers.{IsLayer}
 use Rattle.layer_model.specs.Classes.{rank}
 use Rattle.layer_model.specs.declared.rule.Rule.{Rule}
 use Rattle.mark_base.specs.ReadIds.{id_at}
-use Rattle.layer_core.specs.Ids.{ids_of}
-use Rattle.layer_core.specs.Places.{first_place, places}
+use Rattle.layer_model.specs.LayerIds.{ids_of}
+use Rattle.layer_core.specs.FlawPlaces.{first_place, places}
 use Rattle.layer_core.specs.PairRules.{attribute_there, same_attributes}
 use Rattle.layer_core.specs.WellFormed.{at_attribute_there}
-use Rattle.layer_core.specs.FirstSeen.{keyed, repeat_after, same_numbers, attribute_key}
-use Rattle.layer_core.specs.Walk.{first_among}
+use Rattle.layer_core.specs.Repeats.{keyed, repeat_after, same_numbers, attribute_key}
+use Rattle.layer_core.specs.LowestFlaw.{first_among}
 use Rattle.layer_core.proofs.FlawLemmas.{or-None}
 use Rattle.layer_core.proofs.PassLemmas.{only_attributes}
 use Rattle.layer_core.proofs.PairLemmas.{among_items, among_letter, first_repeats, flaw_of, found_by_letters, items, keyed_items, keys, lower, not_among, pair_below, unpaired, up_entries, first_item, first_item-append, up_both, two_letters}

@@ -11,11 +11,11 @@ use Rattle.layer_model.specs.declared.rule.Rule.TheVariants.{SameRelation}
 use Rattle.layer_model.specs.Annotations.{Annotations}
 use Rattle.layer_model.specs.Layers.{IsLayer}
 use Rattle.layer_model.specs.Classes.{rank}
-use Rattle.layer_core.specs.Ids.{ids_of}
-use Rattle.layer_core.specs.Places.{first_place, places}
+use Rattle.layer_model.specs.LayerIds.{ids_of}
+use Rattle.layer_core.specs.FlawPlaces.{first_place, places}
 use Rattle.layer_core.specs.PairRules.{same_relation, same_relations}
 use Rattle.layer_core.specs.WellFormed.{at_same_relation}
-use Rattle.layer_core.specs.FirstSeen.{keyed, repeat_after, same_numbers, relation_key}
+use Rattle.layer_core.specs.Repeats.{keyed, repeat_after, same_numbers, relation_key}
 use Rattle.layer_core.proofs.FlawLemmas.{or-None}
 use Rattle.layer_core.proofs.PassLemmas.{only_relations}
 use Rattle.layer_core.proofs.PairLemmas.{among_items, among_letter, first_repeats, flaw_of, found_by_letters, items, keyed_items, lower, not_among, pair_below, unpaired, up_entries}

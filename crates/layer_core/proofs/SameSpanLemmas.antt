@@ -13,11 +13,11 @@ use Rattle.layer_model.specs.declared.rule.Rule.TheVariants.{SameSpan}
 use Rattle.layer_model.specs.Annotations.{Annotations}
 use Rattle.layer_model.specs.Layers.{IsLayer}
 use Rattle.layer_model.specs.Span.{same_fragments}
-use Rattle.layer_core.specs.Ids.{ids_of}
-use Rattle.layer_core.specs.Places.{first_place, places}
+use Rattle.layer_model.specs.LayerIds.{ids_of}
+use Rattle.layer_core.specs.FlawPlaces.{first_place, places}
 use Rattle.layer_core.specs.PairRules.{same_span, same_spans}
 use Rattle.layer_core.specs.WellFormed.{at_same_span}
-use Rattle.layer_core.specs.FirstSeen.{keyed, frag_key, repeat_after, same_numbers, span_key}
+use Rattle.layer_core.specs.Repeats.{keyed, frag_key, repeat_after, same_numbers, span_key}
 use Rattle.layer_core.proofs.FlawLemmas.{or-None}
 use Rattle.layer_core.proofs.PassLemmas.{only_spans}
 use Rattle.layer_core.proofs.PairLemmas.{among_items, among_letter, first_repeats, flaw_of, found_by_letters, items, keyed_items, lower, not_among, pair_below, unpaired, up_entries}

@@ -11,9 +11,9 @@ use Rattle.layer_model.specs.declared.flaw.FlawPlace.{FlawPlace}
 use Rattle.layer_model.specs.Annotations.{Annotations}
 use Rattle.layer_model.specs.Layers.{IsLayer}
 use Rattle.layer_model.specs.Rules.{number_of}
-use Rattle.layer_core.specs.Places.{first_place, first_rule, places}
+use Rattle.layer_core.specs.FlawPlaces.{first_place, first_rule, places}
 use Rattle.layer_core.specs.WellFormed.{least_flaw}
-use Rattle.layer_core.specs.Walk.{HasGoodSpans, flaw_at, later_rules, single_rules}
+use Rattle.layer_core.specs.LowestFlaw.{HasGoodSpans, flaw_at, later_rules, single_rules}
 use Rattle.layer_core.proofs.CheckLemmas.{good_spans, in_two}
 use Rattle.layer_core.proofs.RuleNumbers.{Tells, type_tells, use_tells, fragments_tells, text_tells, long_tells, there_tells, kind_tells, role_tells, argument_tells, many_tells, value_tells}
 

@@ -21,8 +21,8 @@ use Rattle.layer_model.specs.Layers.{IsLayer, mark_at, mark_of, numbers}
 use Rattle.mark_base.specs.ReadIds.{id_at}
 use Rattle.layer_core.specs.WellFormed.{no_class}
 use Rattle.layer_core.specs.Rules.{unknown_type, unknown_class, not_for_use, class_not_for_use, bad_fragments, out_of_text, span_too_long, named_by, first_missing, wanted_by, member, first_unwanted, unknown_role, argument_type, too_many, unknown_value}
-use Rattle.layer_core.specs.Places.{first_place, first_rule, places}
-use Rattle.layer_core.specs.Walk.{at_single, class_rule, flaw_at, lower_flaw, lowest_at, lowest_from, lowest_of, mark_rule, single_rules}
+use Rattle.layer_core.specs.FlawPlaces.{first_place, first_rule, places}
+use Rattle.layer_core.specs.LowestFlaw.{at_single, class_rule, flaw_at, lower_flaw, lowest_at, lowest_from, lowest_of, mark_rule, single_rules}
 use Rattle.layer_core.proofs.FlawLemmas.{lower-first, lower-second}
 use Rattle.layer_core.proofs.PlaceLemmas.{at_entries, by_letters, class_places, lowest-append, lowest_classes, lowest_keys, places_of}
 use Rattle.layer_core.proofs.RuleNumbers.{Tells, type_tells, use_tells, fragments_tells, text_tells, long_tells, there_tells, kind_tells, role_tells, argument_tells, many_tells, value_tells}

@@ -10,7 +10,7 @@ use Rattle.layer_model.specs.Annotations.{Annotations}
 use Rattle.layer_core.specs.declared.command.Command.{Command}
 use Rattle.layer_core.specs.PairRules.{classes_full}
 use Rattle.layer_core.specs.WellFormed.{IsWellFormed}
-use Rattle.layer_core.specs.Drafts.{Draft, draft}
+use Rattle.layer_core.specs.MadeLayers.{Draft, draft}
 use Rattle.layer_core.specs.Commands.{Applied, answer_of, applied_of, apply, refusal}
 use Rattle.layer_core.proofs.CommandLemmas.{commands_keep}
 
@@ -44,9 +44,9 @@ unfolding apply
 done_by conf characters layer command made drafts is =
     ap (λ r. answer_of r (applied_of layer (draft conf layer command))) (sym is) ∙ ap (λ m. answer_of None (applied_of layer m)) (sym drafts)
 
--- what is applied is what was settled
-pub settled_as : (applied : Applied) (layer : Annotations) (made : Option AnnId) → layer ≡ applied.layer → made ≡ applied.made → applied ≡ record { layer = layer; made = made }
-settled_as applied layer made ls ms = ap (λ l. let a : Applied = record { layer = l; made = applied.made } in a) (sym ls) ∙ ap (λ m. let a : Applied = record { layer = layer; made = m } in a) (sym ms)
+-- what is applied is the draft that was taken
+pub taken_as : (applied : Applied) (layer : Annotations) (made : Option AnnId) → layer ≡ applied.layer → made ≡ applied.made → applied ≡ record { layer = layer; made = made }
+taken_as applied layer made ls ms = ap (λ l. let a : Applied = record { layer = l; made = applied.made } in a) (sym ls) ∙ ap (λ m. let a : Applied = record { layer = layer; made = m } in a) (sym ms)
 
 pub kept_by : (conf : Configuration) (characters : ℕ) (layer : Annotations) (command : Command) (made : Option Draft) (new : Annotations) → IsWellFormed conf characters layer
     → apply conf characters layer command ≡ Ok (applied_of layer made) → new ≡ (applied_of layer made).layer → IsWellFormed conf characters new

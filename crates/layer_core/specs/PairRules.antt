@@ -6,7 +6,7 @@ use Rattle.std.specs.FinMap as finite
 use Rattle.mark_base.specs.declared.ann_id.AnnId.{AnnId}
 use Rattle.mark_base.specs.declared.ann_id.Kind.{Kind}
 use Rattle.mark_base.specs.declared.ann_id.Kind.TheVariants as letter
-use Rattle.mark_base.specs.declared.places.TypeId.{TypeId}
+use Rattle.mark_base.specs.declared.table_places.TypeId.{TypeId}
 use Rattle.mark_base.specs.declared.arguments.Arg.{Arg}
 use Rattle.annotation_conf.specs.Configurations.{Configuration}
 use Rattle.annotation_conf.specs.Lookups.{relation_admits, overlap_allowed}
@@ -19,7 +19,7 @@ use Rattle.layer_model.specs.declared.rule.Rule.TheVariants.{TooDeep, SameSpan, 
 use Rattle.layer_model.specs.Span.{same_fragments}
 use Rattle.layer_model.specs.Annotations.{Annotations}
 use Rattle.layer_model.specs.Layers.{mark_at}
-use Rattle.layer_core.specs.Ids.{id_place, ids_of, ids_of_letter}
+use Rattle.layer_model.specs.LayerIds.{id_place, ids_of, ids_of_letter}
 use Rattle.layer_core.specs.Targets.{type_of}
 use Rattle.layer_core.specs.SpanRules.{is_bad_text, is_bad_entry, is_bad_store}
 use Rattle.layer_core.specs.Rules.{where_so}

@@ -4,7 +4,7 @@ use Rattle.std.specs.Option.{option_map_or}
 use Rattle.std.specs.List.{list_any, range_with_len}
 use Rattle.mark_base.specs.declared.ann_id.AnnId.{AnnId}
 use Rattle.mark_base.specs.declared.ann_id.Kind.TheVariants as letter
-use Rattle.mark_base.specs.declared.places.TypeId.{TypeId}
+use Rattle.mark_base.specs.declared.table_places.TypeId.{TypeId}
 use Rattle.mark_base.specs.declared.arguments.Arg.{Arg}
 use Rattle.annotation_conf.specs.Configurations.{Configuration}
 use Rattle.annotation_conf.specs.Lookups.{is_equivalence, relation_admits, relation_admits_first, roles_of, role_admits, role_most, values_of, attribute_admits}

@@ -5,7 +5,7 @@ use Rattle.std.specs.FinMap as map
 use Rattle.mark_base.specs.declared.ann_id.AnnId.{AnnId}
 use Rattle.mark_base.specs.declared.ann_id.Kind.{Kind}
 use Rattle.mark_base.specs.declared.ann_id.Kind.TheVariants as letter
-use Rattle.mark_base.specs.declared.places.TypeId.{TypeId}
+use Rattle.mark_base.specs.declared.table_places.TypeId.{TypeId}
 use Rattle.annotation_conf.specs.declared.attr_target.AttrTarget.{AttrTarget}
 use Rattle.annotation_conf.specs.declared.attr_target.AttrTarget.TheVariants.{Bound, Between}
 use Rattle.annotation_conf.specs.Configurations.{Configuration}

@@ -1,11 +1,11 @@
 //! The rules that look at one class and at what it names.
 ghost use Rattle.std.specs.Prelude.{◌≡◌, ◌≤◌, ◌||◌, not, length};
 ghost use Rattle.std.specs.List.{list_any};
-ghost use Rattle.layer_core.specs.Places.{first_place, places};
+ghost use Rattle.layer_core.specs.FlawPlaces.{first_place, places};
 ghost use Rattle.layer_core.specs.Targets.{type_of};
 ghost use Rattle.layer_core.specs.PairRules.{are_bad_members, equiv_members, is_id, may_be_equal};
 ghost use Rattle.layer_core.specs.WellFormed.{at_equiv_members};
-ghost use Rattle.layer_core.specs.Walk.{class_rule, first_from};
+ghost use Rattle.layer_core.specs.LowestFlaw.{class_rule, first_from};
 
 use crate::mark_rules::{barred_class, missing_ids, unknown_relation, unwanted_members, where_so};
 use crate::targets::{is_id, type_of};

@@ -7,9 +7,8 @@ ghost use Rattle.mark_base.specs.ReadIds.{id_at};
 ghost use Rattle.layer_core.specs.WellFormed.{commit_fault, too_few_of};
 
 use crate::mark_rules::filled;
-use crate::targets::id_at;
 use annotation_conf::Conf;
-use layer_model::{Event, Layer, RoleAt, Rule};
+use layer_model::{Event, Layer, RoleAt, Rule, id_at};
 use mark_base::Kind;
 
 /// The rule on the first role of an event that has too few arguments.

@@ -1,12 +1,11 @@
 //! A layer that a command makes.
 ghost use Rattle.std.specs.Prelude.{◌≡◌, IfOk, OnOk, true, option_map};
 ghost use Rattle.layer_model.specs.Layers.{has_number, is_of_kind, with_mark};
-ghost use Rattle.layer_core.specs.Drafts.{Draft as Drafted, free_number, new_number, with_changed, with_less, with_new};
+ghost use Rattle.layer_core.specs.MadeLayers.{Draft as Drafted, free_number, new_number, with_changed, with_less, with_new};
 ghost use Rattle.mark_base.specs.ReadIds.{id_at};
-ghost use Rattle.layer_core.specs.Made.{draft_of};
+ghost use Rattle.layer_core.specs.DraftShows.{draft_of};
 
-use crate::targets::id_at;
-use layer_model::{Layer, Mark};
+use layer_model::{Layer, Mark, id_at};
 use mark_base::{AnnId, Kind, Memory};
 
 /// A layer that a command makes, the annotation that is new or changed in it, and whether it is new.

@@ -1,22 +1,22 @@
 //! Whether a layer is well-formed, and its least flaw where it is not.
 ghost use Rattle.std.specs.Prelude.{◌≡◌, IfErr, IfOk, None, OnOk, length};
-ghost use Rattle.layer_core.specs.Places.{first_rule, places};
+ghost use Rattle.layer_core.specs.FlawPlaces.{first_rule, places};
 ghost use Rattle.layer_core.specs.WellFormed.{IsWellFormed, least_flaw};
 ghost use Rattle.layer_core.specs.CheckFaults.{IsCheckFault};
-ghost use Rattle.layer_core.specs.Walk.{HasGoodSpans, later_rules};
+ghost use Rattle.layer_core.specs.LowestFlaw.{HasGoodSpans, later_rules};
 
 use crate::CheckFault;
 use crate::class_rules::member_flaw;
-use crate::deep::deep_flaw;
-use crate::full::full_flaw;
+use crate::event_chains::deep_flaw;
+use crate::first_flaw::text_flaw;
+use crate::layer_full::full_flaw;
+use crate::lowest_flaw::single_flaw;
 use crate::overlaps::overlap_flaw;
-use crate::passes::text_flaw;
 use crate::same_attributes::attribute_there_flaw;
 use crate::same_events::same_event_flaw;
 use crate::same_relations::same_relation_flaw;
 use crate::same_spans::same_span_flaw;
 use crate::scene::Scene;
-use crate::walk::single_flaw;
 use annotation_conf::Conf;
 use char_documents::Doc;
 use layer_model::{Flaw, Layer};

@@ -5,7 +5,7 @@
 //! arguments. A [`Work`] is a well-formed layer that commands change. [`Work::apply`] carries a [`Command`]
 //! out, or refuses it by the first rule that it breaks and leaves the layer as it was; [`Work::carry_out`]
 //! does the same for a command that the caller keeps. What each command does is defined in
-//! `specs/Drafts.antt`, and what it breaks in `specs/Commands.antt`.
+//! `specs/MadeLayers.antt`, and what it breaks in `specs/Commands.antt`.
 //!
 //! ```text
 //! check(alloc, &layer, &doc, &conf)?;
@@ -15,42 +15,43 @@
 //! ```
 #![tactic(auto)]
 
+mod attribute_value;
+mod bad_texts;
+mod cascade;
 mod check_fault;
 mod class_rules;
 mod command;
+mod command_fields;
 mod command_laws;
+mod command_names;
 mod commit;
-mod deep;
 mod draft;
-mod drafts;
-mod falling;
-mod finds;
-mod first_seen;
-mod full;
-mod gone;
+mod event_chains;
+mod first_annotation;
+mod first_flaw;
 mod laws;
 mod layer_check;
+mod layer_full;
+mod lowest_flaw;
+mod made_layers;
 mod mark_rules;
-mod names;
+mod named_in_refusal;
 mod overlaps;
-mod own_rules;
-mod passes;
 mod refusal;
-mod rule_names;
+mod removal;
+mod repeats;
 mod same_attributes;
 mod same_events;
 mod same_relations;
 mod same_spans;
 mod scene;
 mod shared;
+mod shown_names;
 mod targets;
-mod text_rules;
-mod told;
-mod valued;
-mod walk;
 mod work;
 mod worked_rows;
 
+pub use crate::bad_texts::{is_bad_entry, is_bad_store, is_bad_text};
 pub use crate::check_fault::CheckFault;
 pub use crate::command::Command;
 pub use crate::command_laws::commands_keep_layers;
@@ -58,7 +59,6 @@ pub use crate::commit::may_commit;
 pub use crate::laws::{unflawed_layers, well_formed_layers_cohere};
 pub use crate::layer_check::check;
 pub use crate::refusal::Refusal;
-pub use crate::rule_names::{id_text, named_by_rule};
-pub use crate::text_rules::{is_bad_entry, is_bad_store, is_bad_text};
+pub use crate::shown_names::{id_text, named_by_rule};
 pub use crate::work::{Done, Work};
 pub use crate::worked_rows::examples_of_fields;

@@ -14,7 +14,7 @@ use crate::targets::{
     type_of,
 };
 use annotation_conf::Conf;
-use layer_model::{Attribute, Event, Layer, Relation, RoleAt, Rule, Span};
+use layer_model::{Attribute, Event, Layer, Relation, RoleAt, Rule, Span, id_at};
 use mark_base::{AnnId, Arg, AttrId, Frag, Kind, RelId, TypeId};
 use overlap_rules::{are_ascending, reach};
 

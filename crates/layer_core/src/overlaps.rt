@@ -2,13 +2,12 @@
 ghost use Rattle.std.specs.Prelude.{◌≡◌, ◌<◌, ◌≤◌, IfOk, None, IsTrue, length};
 ghost use Rattle.overlap_rules.specs.Overlaps.{are_ascending, reach};
 ghost use Rattle.overlap_rules.specs.TouchingSpans.{IsFirstTouching};
-ghost use Rattle.layer_core.specs.Places.{first_place, places};
+ghost use Rattle.layer_core.specs.FlawPlaces.{first_place, places};
 ghost use Rattle.layer_core.specs.WellFormed.{at_overlap_refused};
-ghost use Rattle.layer_core.specs.Walk.{HasGoodSpans, refuses};
+ghost use Rattle.layer_core.specs.LowestFlaw.{HasGoodSpans, refuses};
 
-use crate::targets::id_at;
 use annotation_conf::Conf;
-use layer_model::{Flaw, FlawPlace, Layer, Rule, Span};
+use layer_model::{Flaw, FlawPlace, Layer, Rule, Span, id_at};
 use mark_base::{Kind, Memory, OvlKind, TypeId};
 use overlap_rules::SpanIndex;
 use std::alloc::Global;

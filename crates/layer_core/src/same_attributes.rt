@@ -2,13 +2,12 @@
 ghost use Rattle.std.specs.Prelude.{◌≡◌, ◌++◌, IfOk, OnOk, map};
 ghost use Rattle.std.specs.FinMap as finite;
 ghost use Rattle.std.specs.Ordering.{nat_cmp};
-ghost use Rattle.layer_core.specs.FirstSeen.{attribute_key, keyed, shown};
-ghost use Rattle.layer_core.specs.Places.{first_place, places};
+ghost use Rattle.layer_core.specs.Repeats.{attribute_key, keyed, shown};
+ghost use Rattle.layer_core.specs.FlawPlaces.{first_place, places};
 ghost use Rattle.layer_core.specs.WellFormed.{at_attribute_there};
 
-use crate::first_seen::{KeyedId, first_repeat};
-use crate::targets::id_at;
-use layer_model::{Attribute, Flaw, FlawPlace, Layer, Rule, rank};
+use crate::repeats::{KeyedId, first_repeat};
+use layer_model::{Attribute, Flaw, FlawPlace, Layer, Rule, id_at, rank};
 use mark_base::{Kind, Memory};
 use std::alloc::Global;
 use std::collections::BTreeMap;

@@ -3,13 +3,12 @@ ghost use Rattle.std.specs.Prelude.{◌≡◌, IfOk, map};
 ghost use Rattle.std.specs.FinMap as finite;
 ghost use Rattle.std.specs.Ordering.{nat_cmp};
 ghost use Rattle.mark_base.specs.declared.ann_id.Kind.TheVariants as letter;
-ghost use Rattle.layer_core.specs.FirstSeen.{keyed, shown, relation_key};
-ghost use Rattle.layer_core.specs.Places.{first_place, places};
+ghost use Rattle.layer_core.specs.Repeats.{keyed, shown, relation_key};
+ghost use Rattle.layer_core.specs.FlawPlaces.{first_place, places};
 ghost use Rattle.layer_core.specs.WellFormed.{at_same_relation};
 
-use crate::first_seen::{KeyedId, first_repeat};
-use crate::targets::id_at;
-use layer_model::{Flaw, FlawPlace, Layer, Relation, Rule, rank};
+use crate::repeats::{KeyedId, first_repeat};
+use layer_model::{Flaw, FlawPlace, Layer, Relation, Rule, id_at, rank};
 use mark_base::{Kind, Memory};
 use std::alloc::Global;
 use std::collections::BTreeMap;

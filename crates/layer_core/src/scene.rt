@@ -33,7 +33,7 @@ pub(crate) struct Scene<'a> {
 
 impl Judge<Span> for Scene<'_> {
     ghost use Rattle.layer_model.specs.declared.mark.Mark.TheVariants as marked;
-    ghost use Rattle.layer_core.specs.Walk.{mark_rule};
+    ghost use Rattle.layer_core.specs.LowestFlaw.{mark_rule};
 
     ghost told = { λ scene span. mark_rule scene.conf.now scene.characters scene.layer.now (marked.Span span) };
 
@@ -48,7 +48,7 @@ impl Judge<Span> for Scene<'_> {
 
 impl Judge<Event> for Scene<'_> {
     ghost use Rattle.layer_model.specs.declared.mark.Mark.TheVariants as marked;
-    ghost use Rattle.layer_core.specs.Walk.{mark_rule};
+    ghost use Rattle.layer_core.specs.LowestFlaw.{mark_rule};
 
     ghost told = { λ scene event. mark_rule scene.conf.now scene.characters scene.layer.now (marked.Event event) };
 
@@ -65,7 +65,7 @@ impl Judge<Event> for Scene<'_> {
 
 impl Judge<Relation> for Scene<'_> {
     ghost use Rattle.layer_model.specs.declared.mark.Mark.TheVariants as marked;
-    ghost use Rattle.layer_core.specs.Walk.{mark_rule};
+    ghost use Rattle.layer_core.specs.LowestFlaw.{mark_rule};
 
     ghost told = { λ scene relation. mark_rule scene.conf.now scene.characters scene.layer.now (marked.Relation relation) };
 
@@ -80,7 +80,7 @@ impl Judge<Relation> for Scene<'_> {
 
 impl Judge<Attribute> for Scene<'_> {
     ghost use Rattle.layer_model.specs.declared.mark.Mark.TheVariants as marked;
-    ghost use Rattle.layer_core.specs.Walk.{mark_rule};
+    ghost use Rattle.layer_core.specs.LowestFlaw.{mark_rule};
 
     ghost told = { λ scene attribute. mark_rule scene.conf.now scene.characters scene.layer.now (marked.Attribute attribute) };
 
@@ -95,7 +95,7 @@ impl Judge<Attribute> for Scene<'_> {
 
 impl Judge<Normal> for Scene<'_> {
     ghost use Rattle.layer_model.specs.declared.mark.Mark.TheVariants as marked;
-    ghost use Rattle.layer_core.specs.Walk.{mark_rule};
+    ghost use Rattle.layer_core.specs.LowestFlaw.{mark_rule};
 
     ghost told = { λ scene normal. mark_rule scene.conf.now scene.characters scene.layer.now (marked.Normal normal) };
 
@@ -107,7 +107,7 @@ impl Judge<Normal> for Scene<'_> {
 
 impl Judge<Note> for Scene<'_> {
     ghost use Rattle.layer_model.specs.declared.mark.Mark.TheVariants as marked;
-    ghost use Rattle.layer_core.specs.Walk.{mark_rule};
+    ghost use Rattle.layer_core.specs.LowestFlaw.{mark_rule};
 
     ghost told = { λ scene note. mark_rule scene.conf.now scene.characters scene.layer.now (marked.Note note) };
 

@@ -1,52 +1,17 @@
 //! What an ID leads to in a layer, and what each place of an ID wants.
 ghost use Rattle.std.specs.Prelude.{◌≡◌};
-ghost use Rattle.layer_model.specs.Classes.{letter_place};
-ghost use Rattle.mark_base.specs.ReadIds.{id_at};
-ghost use Rattle.layer_core.specs.Ids.{id_place};
 ghost use Rattle.layer_core.specs.PairRules.{is_id};
 ghost use Rattle.layer_core.specs.Targets.{is_argument, is_attribute_target, is_entity_type, is_event_type, is_member, is_normal_target, is_note_target, is_trigger, target_of, type_of};
 
 use annotation_conf::{AttrTarget, Conf};
-use layer_model::Layer;
+use layer_model::{Layer, rank};
 use mark_base::{AnnId, Kind, TypeId};
-
-/// The ID of a letter and a number; a number above the greatest stands for the greatest.
-pub(crate) fn id_at(kind: Kind, number: u32) -> AnnId
-    ensures { result ≡ id_at kind number }
-{
-    AnnId {
-        kind,
-        number: number.min(AnnId::GREATEST),
-    }
-}
-
-/// The place of a letter among all.
-fn letter_place(kind: Kind) -> u8
-    ensures { result ≡ letter_place kind }
-{
-    match kind {
-        Kind::Text => 0,
-        Kind::Event => 1,
-        Kind::Relation => 2,
-        Kind::Attribute => 3,
-        Kind::Legacy => 4,
-        Kind::Normal => 5,
-        Kind::Note => 6,
-    }
-}
-
-/// The place of an ID among all.
-pub(crate) fn id_place(id: AnnId) -> u64
-    ensures { result ≡ id_place id }
-{
-    u64::from(letter_place(id.kind)) * 1_000_000_000 + u64::from(id.number)
-}
 
 /// Whether two IDs are the same.
 pub(crate) fn is_id(a: AnnId, b: AnnId) -> bool
     ensures { result ≡ is_id a b }
 {
-    id_place(a) == id_place(b)
+    rank(a) == rank(b)
 }
 
 /// The type of a span or of an event.

@@ -3,15 +3,15 @@ ghost use Rattle.std.specs.Prelude.{◌≡◌, ◌<◌, IfOk, IfErr, OnErr, Ok, 
 ghost use Rattle.std.specs.Arc.{arc_value};
 ghost use Rattle.layer_core.specs.CheckFaults.{IsCheckFault};
 ghost use Rattle.layer_core.specs.Commands.{applied_of, apply, draft_rule, lower_rule, made_by, refusal};
-ghost use Rattle.layer_core.specs.Drafts.{draft};
-ghost use Rattle.layer_core.specs.Made.{draft_of};
+ghost use Rattle.layer_core.specs.MadeLayers.{draft};
+ghost use Rattle.layer_core.specs.DraftShows.{draft_of};
 ghost use Rattle.layer_core.specs.WellFormed.{IsWellFormed, least_flaw};
 ghost use Rattle.layer_core.specs.Works.{IsRefusal};
 
+use crate::command_fields::{moved_rule, own_rule};
 use crate::draft::Draft;
-use crate::drafts::draft;
-use crate::own_rules::{moved_rule, own_rule};
-use crate::told::told_of;
+use crate::made_layers::draft;
+use crate::named_in_refusal::told_of;
 use crate::{CheckFault, Command, Refusal, check};
 use annotation_conf::Conf;
 use char_documents::Doc;
@@ -160,7 +160,7 @@ fn accepted(
 }
 
 /// Takes the layer of a draft, where there is one, and tells what it made.
-fn settle(layer: &mut Layer, made: Option<Draft>) -> Done
+fn take_draft(layer: &mut Layer, made: Option<Draft>) -> Done
     ensures layer { layer.new ≡ (applied_of layer.old (option_map draft_of made)).layer }
     ensures made { result.made ≡ (applied_of layer.old (option_map draft_of made)).made }
 {
@@ -243,6 +243,6 @@ impl Work {
         ensures text { self.new.text ≡ self.old.text }
     {
         let made = accepted(self.alloc, &self.conf, &self.doc, &self.layer, command)?;
-        Ok(settle(&mut self.layer, made))
+        Ok(take_draft(&mut self.layer, made))
     }
 }

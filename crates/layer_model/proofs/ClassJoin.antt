@@ -4,7 +4,7 @@ use Rattle.std.proofs.lemmas.Bool.{eq-eqb, eqb-true}
 use Rattle.std.proofs.lemmas.List.Folds.{list_any-append}
 use Rattle.std.specs.List.{AllByRecursion, list_any, filter}
 use Rattle.mark_base.specs.declared.ann_id.AnnId.{AnnId}
-use Rattle.mark_base.specs.declared.places.RelId.{RelId}
+use Rattle.mark_base.specs.declared.table_places.RelId.{RelId}
 use Rattle.layer_model.specs.declared.class.Class.{Class}
 use Rattle.layer_model.specs.Classes.{rank, has_rank, is_among, ascending, shares, sharing, apart, joined_class, joined, insert_class, IsClass, AreDisjoint, Precedes, AreClasses, IsClassList}
 use Rattle.layer_model.proofs.IdSets.{has_rank-ascending, Ascends-ascending}

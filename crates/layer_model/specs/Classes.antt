@@ -6,7 +6,7 @@ use Rattle.std.specs.List.Sorted.{IsStrictlySortedBy}
 use Rattle.mark_base.specs.declared.ann_id.AnnId.{AnnId}
 use Rattle.mark_base.specs.declared.ann_id.Kind.{Kind}
 use Rattle.mark_base.specs.declared.ann_id.Kind.TheVariants as letter
-use Rattle.mark_base.specs.declared.places.RelId.{RelId}
+use Rattle.mark_base.specs.declared.table_places.RelId.{RelId}
 use Rattle.layer_model.specs.declared.class.Class.{Class}
 
 -- ---- IDs in their order: by letter, then by number

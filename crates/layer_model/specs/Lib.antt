@@ -3,6 +3,7 @@ pub mod Classes
 pub mod Coherent
 pub mod IdSets
 pub mod Layers
+pub mod LayerIds
 pub mod Numbers
 pub mod RuleNames
 pub mod Rules

@@ -25,6 +25,7 @@ mod class_list;
 mod event;
 mod flaw;
 mod id_set;
+mod ids;
 mod laws;
 mod layer;
 mod mark;
@@ -42,6 +43,7 @@ pub use crate::class::Class;
 pub use crate::event::Event;
 pub use crate::flaw::{Flaw, FlawPlace};
 pub use crate::id_set::{IdSet, rank};
+pub use crate::ids::{id_at, ids_of, ids_of_letter, push_ids};
 pub use crate::laws::{
     circles_are_too_deep, last_class_is_appended, nothing_is_coherent, numbers_above_are_free,
     shorter_chains_begin, take_undoes_put,

@@ -7,8 +7,8 @@ ghost use Rattle.layer_undo.specs.Desks.{IsDesk, after_redo, after_undo, layer_o
 ghost use Rattle.layer_undo.specs.Replays.{replay};
 ghost use Rattle.layer_undo.specs.Starts.{IsDeskStart, IsRefused};
 
-use crate::moves::{make_room, move_last};
 use crate::replay::{reopen_with, repeat_last};
+use crate::script_moves::{make_room, move_last};
 use crate::scripts::try_scripts;
 use crate::{DeskStart, Script};
 use annotation_conf::Conf;

@@ -17,9 +17,9 @@
 mod desk;
 mod desk_start;
 mod laws;
-mod moves;
 mod replay;
 mod script;
+mod script_moves;
 mod scripts;
 mod shared;
 mod worked_rows;

@@ -1,6 +1,7 @@
 pub mod AnnIds
 pub mod FailList
 pub mod IdOrder
+pub mod Lists
 pub mod MemoryStreams
 pub mod Names
 pub mod PieceSizes

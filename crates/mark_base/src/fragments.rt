@@ -1,5 +1,6 @@
 //! Fragments of a text, by characters.
-ghost use Rattle.std.specs.Prelude.{◌≡◌, IfOk};
+ghost use Rattle.std.specs.Prelude.{◌≡◌, ◌==◌, map, IfOk};
+ghost use Rattle.std.specs.List.{slice_split};
 
 use crate::Memory;
 use std::alloc::{AllocError, Global};
@@ -75,4 +76,11 @@ impl Clone for FragList {
         let items = self.items.clone()?;
         Ok(FragList { items })
     }
+}
+
+/// What semicolons separate: the fragments of a text that spells some, each still to be read. Cost: the text.
+pub fn split_fragments(alloc: Global, text: &str) -> Result<Vec<&str>, AllocError>
+    ensures { IfOk result (λ pieces. map (λ piece. piece.now) pieces.items ≡ slice_split (λ b. b == 59) text.now) }
+{
+    text.split(';').collect(alloc)
 }

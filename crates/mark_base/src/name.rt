@@ -78,8 +78,8 @@ fn first_barred(text: &str) -> Option<usize>
     text.chars().position(|c| is_barred(c))
 }
 
-/// How many characters a text has.
-fn char_count(text: &str) -> usize
+/// How many characters a text has. Cost: its length.
+pub fn char_count(text: &str) -> usize
     ensures { result ≡ length (chars text.now) }
 {
     text.chars().count()

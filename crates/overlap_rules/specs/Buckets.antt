@@ -1,5 +1,6 @@
 -- Where an index keeps the numbers of its spans, by buckets of characters (private calls only).
-use Rattle.std.specs.Prelude.{◌≡◌, ℕ, ◌/◌, ◌-◌, ◌≤◌, ◌<◌, Bool, true, List, Option, Some, None, ⊤}
+use Rattle.std.specs.Prelude.{◌≡◌, ℕ, ◌/◌, ◌+◌, ◌-◌, ◌≤◌, ◌<◌, ◌==◌, ◌⊎◌, Bool, true, List, Option, Some, None, ⊤}
+use Rattle.std.specs.List.{list_any}
 use Rattle.std.specs.Ordering.{nat_cmp, ordering_then}
 use Rattle.std.specs.declared.cmp.Ordering.{Ordering}
 use Rattle.std.specs.BTreeSet.{BTreeSet, contains}
@@ -41,25 +42,35 @@ Keeps before after = (bucket number : ℕ) → has before bucket number ≡ true
 abbrev pub KeepsOthers : ℕ → Places → Places → Type 0
 KeepsOthers gone before after = (bucket number : ℕ) → (number ≡ gone → ⊥) → has before bucket number ≡ true → has after bucket number ≡ true
 
--- a number stands beside the bucket of each character that fragments cover
-abbrev pub IsSpread : Places → ℕ → List Frag → Type 0
-IsSpread places number frags = (character : ℕ) → covers frags character ≡ true → has places (bucket_of character) number ≡ true
+-- a character is the first of one of some fragments
+abbrev pub begins : List Frag → ℕ → Bool
+begins frags character = list_any (λ frag. frag.start == character) frags
 
--- the number of each held span is spread over the span's characters
-abbrev pub AreSpread : Held → Places → Type 0
-AreSpread held places = (number : ℕ) (span : List Frag) → map.get held number ≡ Some span → IsSpread places number span
+-- a number stands beside the bucket of each character that lies so to fragments
+abbrev pub IsBeside : (List Frag → ℕ → Bool) → Places → ℕ → List Frag → Type 0
+IsBeside lies places number frags = (character : ℕ) → lies frags character ≡ true → has places (bucket_of character) number ≡ true
 
--- what an index keeps: spans in ascending order, and their numbers beside buckets
-pub record IsKept (held : Held) (places : Places) : Type 0 where
+-- the number of each held span stands beside the bucket of each character that lies so to the span
+abbrev pub AreBeside : (List Frag → ℕ → Bool) → Held → Places → Type 0
+AreBeside lies held places = (number : ℕ) (span : List Frag) → map.get held number ≡ Some span → IsBeside lies places number span
+
+-- what an index keeps: spans in ascending order, and their numbers beside the buckets of the characters that they cover, and of those at which their fragments begin
+pub record IsKept (held : Held) (covered begun : Places) : Type 0 where
   pub ascending : AreAscending held
-  pub spread : AreSpread held places
+  pub spread : AreBeside covers held covered
+  pub starts : AreBeside begins held begun
 
--- a number stands beside a bucket that a fragment meets
-pub record StandsNear (places : Places) (frag : Frag) (number : ℕ) : Type 0 where
+-- a number stands beside one of some buckets, from the first to the last
+pub record StandsBetween (places : Places) (first last : ℕ) (number : ℕ) : Type 0 where
   pub bucket : ℕ
-  pub first : bucket_of frag.start ≤ bucket
-  pub last : bucket ≤ bucket_of (frag.end - 1)
+  pub low : first ≤ bucket
+  pub high : bucket ≤ last
   pub there : has places bucket number ≡ true
+
+-- a number covers something of the first bucket that a fragment meets, or begins in a later one
+abbrev pub StandsNear : Places → Places → Frag → ℕ → Type 0
+StandsNear covered begun frag number =
+    StandsBetween covered (bucket_of frag.start) (bucket_of frag.start) number ⊎ StandsBetween begun (bucket_of frag.start + 1) (bucket_of (frag.end - 1)) number
 
 -- a number is below the lowest that was found, or none was found
 abbrev pub IsBelow : ℕ → Option ℕ → Type 0

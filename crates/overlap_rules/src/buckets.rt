@@ -1,6 +1,8 @@
-//! Where the numbers of spans stand: beside each bucket of characters that a span reaches over.
+//! Where the numbers of spans stand: beside each bucket of characters that a span covers something of, and beside
+//! each in which one of its fragments begins.
 ghost use Rattle.std.specs.Prelude.{◌≡◌, ◌<◌, ◌-◌, OnOk};
-ghost use Rattle.overlap_rules.specs.Buckets.{bucket_of, Keeps, KeepsOthers, HasBetween, IsSpread};
+ghost use Rattle.overlap_rules.specs.Overlaps.{covers};
+ghost use Rattle.overlap_rules.specs.Buckets.{begins, bucket_of, Keeps, KeepsOthers, HasBetween, IsBeside};
 
 use mark_base::{Frag, Memory};
 use std::collections::BTreeSet;
@@ -51,7 +53,7 @@ pub fn take_between(places: &mut Places, number: u32, first: u32, last: u32)
 
 /// Puts a number beside each bucket that fragments meet. On want of memory some may be put.
 pub fn put_near(places: &mut Places, number: u32, frags: &[Frag]) -> Result<(), Memory>
-    ensures all { OnOk result (IsSpread places.new number frags.now) }
+    ensures all { OnOk result (IsBeside covers places.new number frags.now) }
     ensures kept { Keeps places.old places.new }
 {
     for frag in frags {
@@ -66,5 +68,25 @@ pub fn take_near(places: &mut Places, number: u32, frags: &[Frag])
 {
     for frag in frags {
         take_between(places, number, first_bucket(frag), last_bucket(frag));
+    }
+}
+
+/// Puts a number beside each bucket in which a fragment begins. On want of memory some may be put.
+pub fn put_starts(places: &mut Places, number: u32, frags: &[Frag]) -> Result<(), Memory>
+    ensures all { OnOk result (IsBeside begins places.new number frags.now) }
+    ensures kept { Keeps places.old places.new }
+{
+    for frag in frags {
+        places.insert((first_bucket(frag), number))?;
+    }
+    Ok(())
+}
+
+/// Takes a number away from each bucket in which a fragment begins.
+pub fn take_starts(places: &mut Places, number: u32, frags: &[Frag])
+    ensures { KeepsOthers number places.old places.new }
+{
+    for frag in frags {
+        places.remove(&(first_bucket(frag), number));
     }
 }

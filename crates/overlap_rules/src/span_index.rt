@@ -1,11 +1,13 @@
 //! Spans by number, among which the first that touches given fragments is found.
-ghost use Rattle.std.specs.Prelude.{◌≡◌, ℕ, ◌<◌, ◌≤◌, IsTrue, IsFalse, None, OnErr, OnOk, is_some, length};
+ghost use Rattle.std.specs.Prelude.{◌≡◌, ℕ, ◌-◌, ◌+◌, ◌<◌, ◌≤◌, IsTrue, IsFalse, None, OnErr, OnOk, is_some, length};
 ghost use Rattle.std.specs.FinMap as map;
 ghost use Rattle.overlap_rules.specs.Overlaps.{are_ascending, reach};
 ghost use Rattle.overlap_rules.specs.TouchingSpans.{AreAscending, IsFirstTouching, Passes, Fails};
-ghost use Rattle.overlap_rules.specs.Buckets.{held_in, IsKept, FoundPasses, IsNoHigher, StandsNear, IsBelow};
+ghost use Rattle.overlap_rules.specs.Buckets.{bucket_of, held_in, IsKept, FoundPasses, IsNoHigher, StandsBetween, StandsNear, IsBelow};
 
-use crate::buckets::{Places, first_bucket, last_bucket, put_near, take_near};
+use crate::buckets::{
+    Places, first_bucket, last_bucket, put_near, put_starts, take_near, take_starts,
+};
 use crate::kind_of;
 use mark_base::{Frag, FragList, Memory, OvlKind};
 use std::alloc::Global;
@@ -17,7 +19,8 @@ use std::marker::Model;
 pub struct SpanIndex {
     alloc: Global,
     spans: BTreeMap<u32, FragList>,
-    places: Places,
+    covered: Places,
+    begun: Places,
 }
 
 impl Model for SpanIndex {
@@ -31,7 +34,7 @@ impl Model for SpanIndex {
 
     ghost view = { λ index. map.from_entries index.spans.entries };
 
-    ghost invariant = { λ index. IsKept (map.from_entries index.spans.entries) index.places };
+    ghost invariant = { λ index. IsKept (map.from_entries index.spans.entries) index.covered index.begun };
 }
 
 impl SpanIndex {
@@ -42,7 +45,8 @@ impl SpanIndex {
         SpanIndex {
             alloc,
             spans: BTreeMap::new(alloc),
-            places: BTreeSet::new(alloc),
+            covered: BTreeSet::new(alloc),
+            begun: BTreeSet::new(alloc),
         }
     }
 
@@ -59,10 +63,18 @@ impl SpanIndex {
         ensures kept { OnErr result (self.new ≡ self.old) }
     {
         let span = FragList::of(self.alloc, frags)?;
-        match hold(&mut self.spans, &mut self.places, number, span, frags) {
+        match hold(
+            &mut self.spans,
+            &mut self.covered,
+            &mut self.begun,
+            number,
+            span,
+            frags,
+        ) {
             Ok(()) => Ok(()),
             Err(want) => {
-                take_near(&mut self.places, number, frags);
+                take_near(&mut self.covered, number, frags);
+                take_starts(&mut self.begun, number, frags);
                 Err(want)
             }
         }
@@ -76,7 +88,8 @@ impl SpanIndex {
     {
         match self.spans.remove(&number) {
             Some(span) => {
-                take_near(&mut self.places, number, span.items());
+                take_near(&mut self.covered, number, span.items());
+                take_starts(&mut self.begun, number, span.items());
                 true
             }
             None => false,
@@ -86,8 +99,9 @@ impl SpanIndex {
     /// The lowest number, other than the one to skip, whose span has a character in common with these
     /// fragments and passes the test, or `None` where there is none. The test is told the number and
     /// how the span lies to the fragments; it is asked only of spans that touch them. The fragments are
-    /// as for `put`. Cost: for each span that stands in one of the buckets that the given fragments meet
-    /// its fragments and the given ones, and the logarithm of the number of spans.
+    /// as for `put`. Cost: a span that touches the given fragments, or comes within 64 characters of where one of them
+    /// begins, is compared once for each of them, and once more for each of its own fragments that begins in
+    /// their later buckets; a comparison costs the fragments of both and the logarithm of the number of spans.
     pub fn first_touching<F: Fn(u32, OvlKind) -> bool>(
         &self,
         frags: &[Frag],
@@ -102,7 +116,16 @@ impl SpanIndex {
     {
         let mut found = None;
         for frag in frags {
-            found = lowest_near(&self.spans, &self.places, frag, frags, skip, &test, found);
+            found = lowest_near(
+                &self.spans,
+                &self.covered,
+                &self.begun,
+                frag,
+                frags,
+                skip,
+                &test,
+                found,
+            );
         }
         found
     }
@@ -112,19 +135,21 @@ impl SpanIndex {
 /// held.
 fn hold(
     spans: &mut BTreeMap<u32, FragList>,
-    places: &mut Places,
+    covered: &mut Places,
+    begun: &mut Places,
     number: u32,
     span: FragList,
     frags: &[Frag],
 ) -> Result<(), Memory>
-    requires kept { IsKept (held_in spans.old.entries) places.old }
+    requires kept { IsKept (held_in spans.old.entries) covered.old begun.old }
     requires span { span ≡ frags.now }
     requires ascending { IsTrue (are_ascending frags.now) }
-    ensures kept { IsKept (held_in spans.new.entries) places.new }
+    ensures kept { IsKept (held_in spans.new.entries) covered.new begun.new }
     ensures held { OnOk result (held_in spans.new.entries ≡ map.insert (held_in spans.old.entries) number frags.now) }
     ensures same { OnErr result (held_in spans.new.entries ≡ held_in spans.old.entries) }
 {
-    put_near(places, number, frags)?;
+    put_near(covered, number, frags)?;
+    put_starts(begun, number, frags)?;
     spans.insert(number, span)?;
     Ok(())
 }
@@ -166,10 +191,41 @@ fn is_below(number: u32, found: Option<u32>) -> bool
     }
 }
 
-/// The lowest of a number that was found before and of those that pass and stand near a fragment.
-fn lowest_near<F: Fn(u32, OvlKind) -> bool>(
+/// The lowest of a number that was found before and of those that pass and stand beside the buckets from the first
+/// to that before the last.
+fn lowest_between<F: Fn(u32, OvlKind) -> bool>(
     spans: &BTreeMap<u32, FragList>,
     places: &Places,
+    buckets: (u32, u32),
+    frags: &[Frag],
+    skip: Option<u32>,
+    test: &F,
+    before: Option<u32>,
+) -> Option<u32>
+    requires callable { F.IsAlwaysCallable test.now }
+    requires held { AreAscending (held_in spans.now.entries) }
+    requires ascending { IsTrue (are_ascending frags.now) }
+    requires some { buckets.0 ≤ buckets.1 }
+    requires passes { FoundPasses (F.post test.now) (held_in spans.now.entries) frags.now skip before }
+    ensures passes { FoundPasses (F.post test.now) (held_in spans.now.entries) frags.now skip result }
+    ensures lower { IsNoHigher before result }
+    ensures others { (number last : ℕ) → last < buckets.1 → StandsBetween places.now buckets.0 last number → IsBelow number result → Fails (F.post test.now) (held_in spans.now.entries) frags.now skip number }
+{
+    let mut found = before;
+    for (_, number) in places.range((buckets.0, 0)..(buckets.1, 0)) {
+        if is_below(*number, found) && passes(spans, *number, frags, skip, test) {
+            found = Some(*number);
+        }
+    }
+    found
+}
+
+/// The lowest of a number that was found before and of those that pass and stand near a fragment. A span that shares a
+/// character with the fragment covers its first character, or has a fragment that begins in it.
+fn lowest_near<F: Fn(u32, OvlKind) -> bool>(
+    spans: &BTreeMap<u32, FragList>,
+    covered: &Places,
+    begun: &Places,
     near: &Frag,
     frags: &[Frag],
     skip: Option<u32>,
@@ -183,15 +239,18 @@ fn lowest_near<F: Fn(u32, OvlKind) -> bool>(
     requires passes { FoundPasses (F.post test.now) (held_in spans.now.entries) frags.now skip before }
     ensures passes { FoundPasses (F.post test.now) (held_in spans.now.entries) frags.now skip result }
     ensures lower { IsNoHigher before result }
-    ensures others { (number : ℕ) → StandsNear places.now near.now number → IsBelow number result → Fails (F.post test.now) (held_in spans.now.entries) frags.now skip number }
+    ensures others { (number : ℕ) → StandsNear covered.now begun.now near.now number → IsBelow number result → Fails (F.post test.now) (held_in spans.now.entries) frags.now skip number }
 {
-    let mut found = before;
-    let first = (first_bucket(near), 0);
-    let behind = (last_bucket(near) + 1, 0);
-    for (_, number) in places.range(first..behind) {
-        if is_below(*number, found) && passes(spans, *number, frags, skip, test) {
-            found = Some(*number);
-        }
-    }
-    found
+    let first = first_bucket(near);
+    let behind = last_bucket(near) + 1;
+    let found = lowest_between(
+        spans,
+        covered,
+        (first, first + 1),
+        frags,
+        skip,
+        test,
+        before,
+    );
+    lowest_between(spans, begun, (first + 1, behind), frags, skip, test, found)
 }

@@ -2,7 +2,7 @@
 use Rattle.std.specs.Prelude.{ℕ, ◌+◌, ◌==◌, ◌||◌, ◌&&◌, Bool, false, List, length, nat_lt, bytes_eq, Option, Some, None, if◌then◌else◌, option_map, option_and_then, slice_get, zero, suc}
 use Rattle.std.specs.Option.{option_map_or}
 use Rattle.std.specs.List.{position_from}
-use Rattle.mark_base.specs.declared.places.TypeId.{TypeId}
+use Rattle.mark_base.specs.declared.table_places.TypeId.{TypeId}
 use Rattle.type_hierarchy.specs.declared.type_row.TypeRow.{TypeRow}
 
 -- a row has this name

@@ -15,6 +15,6 @@ mod tree;
 mod type_row;
 mod types_fault;
 
-pub use crate::tree::Types;
+pub use crate::tree::{MOST_USABLE, Types};
 pub use crate::type_row::TypeRow;
 pub use crate::types_fault::TypesFault;

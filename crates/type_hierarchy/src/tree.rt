@@ -15,7 +15,7 @@ use std::marker::Model;
 const MOST_TYPES: usize = 256;
 
 /// The types that annotations may have, in a tree that has the most of them.
-const MOST_USABLE: usize = 63;
+pub const MOST_USABLE: usize = 63;
 
 /// A tree of at most 256 types. Contracts see it as the list of its rows.
 #[derive(Drop)]

@@ -4,8 +4,8 @@ use Rattle.std.proofs.lemmas.List.{map-append}
 use Rattle.std.proofs.lemmas.Option.{same_Some}
 use Rattle.std.specs.List.{slice_get}
 use Rattle.layer_model.specs.Annotations.{Annotations}
-use Rattle.content_keys.specs.declared.places.Placed.{Placed}
-use Rattle.content_keys.specs.declared.places.PlacedLayer.{PlacedLayer}
+use Rattle.content_keys.specs.declared.placed_layer.Placed.{Placed}
+use Rattle.content_keys.specs.declared.placed_layer.PlacedLayer.{PlacedLayer}
 use Rattle.content_keys.specs.LayerContents.{class_contents_of, contents_of}
 use Rattle.content_keys.specs.Places.{contents_at}
 use Rattle.content_keys.specs.Tables.{Starts}

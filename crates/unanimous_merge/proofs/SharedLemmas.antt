@@ -6,8 +6,8 @@ use Rattle.std.specs.List.{filter, list_all, list_any, slice_get}
 use Rattle.mark_base.specs.declared.ann_id.AnnId.{AnnId}
 use Rattle.layer_model.specs.declared.class.Class.{Class}
 use Rattle.layer_model.specs.Annotations.{Annotations}
-use Rattle.content_keys.specs.declared.places.Placed.{Placed}
-use Rattle.content_keys.specs.declared.places.PlacedLayer.{PlacedLayer}
+use Rattle.content_keys.specs.declared.placed_layer.Placed.{Placed}
+use Rattle.content_keys.specs.declared.placed_layer.PlacedLayer.{PlacedLayer}
 use Rattle.content_keys.specs.LayerContents.{class_content, class_contents_of, content_of, contents_of, ids_of}
 use Rattle.content_keys.specs.Places.{contents_at}
 use Rattle.unanimous_merge.specs.Readings.{Reading, class_contents, contents, reading_of, readings}

@@ -4,8 +4,8 @@ use Rattle.std.specs.List.{list_all}
 use Rattle.layer_model.specs.declared.class.Class.{Class}
 use Rattle.layer_model.specs.Annotations.{Annotations}
 use Rattle.layer_model.specs.Coherent.{IsCoherent}
-use Rattle.content_keys.specs.declared.places.Placed.{Placed}
-use Rattle.content_keys.specs.declared.places.PlacedLayer.{PlacedLayer}
+use Rattle.content_keys.specs.declared.placed_layer.Placed.{Placed}
+use Rattle.content_keys.specs.declared.placed_layer.PlacedLayer.{PlacedLayer}
 use Rattle.content_keys.specs.LayerContents.{class_contents_of, contents_of}
 use Rattle.content_keys.specs.Places.{contents_at}
 use Rattle.unanimous_merge.specs.declared.entry.Entry.{Entry}

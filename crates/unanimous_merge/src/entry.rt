@@ -1,6 +1,6 @@
 //! The annotations of all holders, by the places of their contents.
 ghost use Rattle.std.specs.Prelude.{◌≡◌, ◌≤◌, ◌<◌, ◌++◌, length, map, All, IfOk, OnOk};
-ghost use Rattle.content_keys.specs.declared.places.PlacedLayer.{PlacedLayer};
+ghost use Rattle.content_keys.specs.declared.placed_layer.PlacedLayer.{PlacedLayer};
 ghost use Rattle.unanimous_merge.specs.Rows.{entries_by, entries_from, firsts_at};
 
 use crate::item::ItemId;

@@ -3,7 +3,7 @@ use Rattle.std.specs.BTreeMap.{BTreeMap, get, Updates}
 use Rattle.ann_reader.specs.declared.line.Line.{Line as LineValue}
 use Rattle.ann_reader.specs.Lines.{Line}
 use Rattle.ann_reader.specs.LineShows.{seen_line}
-use Rattle.ann_reader.specs.Known.{FindsHeads}
+use Rattle.ann_reader.specs.KnownLines.{FindsHeads}
 use Rattle.std.proofs.lemmas.List.{take_all}
 use Rattle.ann_reader.proofs.StepLemmas.{taken, heads_none, heads_again, heads_new}
 use Rattle.ann_reader.proofs.known_lines.gather_heads.Goals as goal

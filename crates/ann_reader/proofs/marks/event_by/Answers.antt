@@ -1,7 +1,7 @@
 use Rattle.std.proofs.Common.{◌≡◌, ◌≤◌, List, Option, Some, sym, ◌∙◌, ap}
 use Rattle.std.proofs.Math.Bridge.{le_prop}
 use Rattle.mark_base.specs.declared.ann_id.AnnId.{AnnId}
-use Rattle.mark_base.specs.declared.places.TypeId.{TypeId}
+use Rattle.mark_base.specs.declared.table_places.TypeId.{TypeId}
 use Rattle.mark_base.specs.declared.arguments.Arg.{Arg}
 use Rattle.layer_model.specs.declared.mark.Mark.TheVariants.{Event}
 use Rattle.ann_reader.specs.Marks.{event_by}

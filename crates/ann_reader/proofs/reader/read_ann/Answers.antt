@@ -22,5 +22,5 @@ returns-in-Ok-clause-fault c =
 pub returns-in-Err-clause-fault : goal.returns-in-Err-clause-fault
 returns-in-Err-clause-fault c =
     let short : valid_up_to c.in-Err.error < length c.args.bytes.now = c.in-Err.ensures.cases.1.short in
-    bytes_faulty c.args.conf.now c.args.doc.now c.args.bytes.now c.valid_up_to-valid.result c.line_ends.result (c.valid_up_to-valid.ensures ∙ c.in-Err.ensures.valid_len)
-    (omega (arith, c.valid_up_to-valid.ensures, short)) c.line_ends.ensures.value
+    bytes_faulty c.args.conf.now c.args.doc.now c.args.bytes.now c.valid_up_to-valid.result c.count_line_ends.result (c.valid_up_to-valid.ensures ∙ c.in-Err.ensures.valid_len)
+    (omega (arith, c.valid_up_to-valid.ensures, short)) c.count_line_ends.ensures.value

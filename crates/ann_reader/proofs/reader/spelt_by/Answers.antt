@@ -12,10 +12,10 @@ use Rattle.ann_reader.specs.Lines.{Line}
 use Rattle.ann_reader.specs.LineShows.{seen_line}
 use Rattle.ann_reader.specs.FormShows.{NamesSome}
 use Rattle.ann_reader.specs.FaultShows.{seen_fault}
-use Rattle.ann_reader.specs.Forms.{form_of}
+use Rattle.ann_reader.specs.LineForms.{form_of}
 use Rattle.ann_reader.specs.LineFaults.{Fault, first_line_fault, counted_byte, count_like}
 use Rattle.ann_reader.specs.AnnFaults.{with_form, with_line, layer_of, first_text_fault, text_fault}
-use Rattle.ann_reader.specs.Counts.{CountsLines}
+use Rattle.ann_reader.specs.LineCounts.{CountsLines}
 use Rattle.ann_reader.proofs.FormFacts.{names_some}
 use Rattle.ann_reader.proofs.ClassLemmas.{form_len}
 use Rattle.ann_reader.proofs.StepLemmas.{taken, left_over, none_left, counts_more, front_few}

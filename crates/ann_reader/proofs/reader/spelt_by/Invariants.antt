@@ -5,7 +5,7 @@ use Rattle.ann_reader.specs.LineFaults.{first_line_fault}
 use Rattle.ann_reader.specs.AnnFaults.{with_line, layer_of, first_text_fault}
 use Rattle.ann_reader.specs.FaultShows.{seen_fault}
 use Rattle.ann_reader.specs.LineShows.{seen_line}
-use Rattle.ann_reader.specs.Counts.{CountsLines}
+use Rattle.ann_reader.specs.LineCounts.{CountsLines}
 use Rattle.ann_reader.proofs.reader.spelt_by.Given as goal
 
 abbrev pub invariant-loop-line : goal.invariant-loop-line

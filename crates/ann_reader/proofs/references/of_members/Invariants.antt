@@ -1,6 +1,6 @@
 use Rattle.std.proofs.Common.{◌≡◌, ◌++◌, drop}
 use Rattle.std.specs.Prelude.{map}
-use Rattle.ann_reader.specs.declared.letters.Letters.TheVariants.{Spans}
+use Rattle.ann_reader.specs.declared.id_letters.Letters.TheVariants.{Spans}
 use Rattle.ann_reader.specs.References.{of_letters}
 use Rattle.ann_reader.specs.FormShows.{seen_text, seen_reference}
 use Rattle.ann_reader.proofs.references.of_members.Given as goal

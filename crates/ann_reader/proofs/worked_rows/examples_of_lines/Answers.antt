@@ -1,6 +1,6 @@
 use Rattle.std.proofs.Common.{refl}
 use Rattle.ann_reader.specs.Lines.{lines_of}
-use Rattle.ann_reader.specs.Forms.{form_of}
+use Rattle.ann_reader.specs.LineForms.{form_of}
 use Rattle.ann_reader.proofs.worked_rows.examples_of_lines.Goals as goal
 
 pub returns-clause-lines : goal.returns-clause-lines

@@ -2,7 +2,7 @@ use Rattle.std.proofs.Common.{◌≡◌, ◌∙◌, ◌-◌, ◌<◌, sym, ap, s
 use Rattle.std.specs.Option.{option_map_or}
 use Rattle.annotation_conf.specs.ConfNames.{File, NamedLine}
 use Rattle.annotation_conf.specs.ConfFaults.{of_named}
-use Rattle.annotation_conf.specs.NamesKnown.{place_among}
+use Rattle.annotation_conf.specs.NamePlaces.{place_among}
 use Rattle.annotation_conf.specs.KnownFiles.{IsKnown}
 use Rattle.annotation_conf.specs.FileKept.{KeptNamed, kept_named}
 use Rattle.annotation_conf.specs.FileShows.{seen_named}

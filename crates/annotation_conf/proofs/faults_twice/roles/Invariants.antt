@@ -1,7 +1,7 @@
 use Rattle.std.proofs.Common.{◌≡◌, take, map}
 use Rattle.annotation_conf.specs.ConfFaults.{names_of}
 use Rattle.annotation_conf.specs.FileShows.{seen_pair}
-use Rattle.annotation_conf.specs.NamesKnown.{seen_declared}
+use Rattle.annotation_conf.specs.NamePlaces.{seen_declared}
 use Rattle.annotation_conf.proofs.faults_twice.roles.Given as goal
 
 abbrev pub invariant-loop-pair : goal.invariant-loop-pair

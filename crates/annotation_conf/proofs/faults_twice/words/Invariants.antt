@@ -1,7 +1,7 @@
 use Rattle.std.proofs.Common.{◌≡◌, take, map}
 use Rattle.annotation_conf.specs.ConfFaults.{names_of, word_of}
 use Rattle.annotation_conf.specs.FileShows.{seen_alternative}
-use Rattle.annotation_conf.specs.NamesKnown.{seen_declared}
+use Rattle.annotation_conf.specs.NamePlaces.{seen_declared}
 use Rattle.annotation_conf.proofs.faults_twice.words.Given as goal
 
 abbrev pub invariant-loop-one : goal.invariant-loop-one

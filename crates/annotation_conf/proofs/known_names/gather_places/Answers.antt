@@ -1,7 +1,7 @@
 use Rattle.std.proofs.Common.{◌∙◌, ◌+◌, ℕ, sym, subst, arith, map, take}
 use Rattle.std.specs.BTreeMap.{BTreeMap}
 use Rattle.std.proofs.lemmas.Map.Text.{btree_map_updates_str}
-use Rattle.annotation_conf.specs.NamesKnown.{seen_declared, FindsPlaces}
+use Rattle.annotation_conf.specs.NamePlaces.{seen_declared, FindsPlaces}
 use Rattle.annotation_conf.proofs.FaultNames.{finds_again, finds_new}
 use denote.Ref.{Bor}
 use Rattle.std.proofs.Common.{List}

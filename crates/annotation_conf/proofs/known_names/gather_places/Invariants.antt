@@ -1,5 +1,5 @@
 use Rattle.std.proofs.Common.{take, map}
-use Rattle.annotation_conf.specs.NamesKnown.{seen_declared, FindsPlaces}
+use Rattle.annotation_conf.specs.NamePlaces.{seen_declared, FindsPlaces}
 use Rattle.annotation_conf.proofs.known_names.gather_places.Given as goal
 
 abbrev pub invariant-loop-place : goal.invariant-loop-place

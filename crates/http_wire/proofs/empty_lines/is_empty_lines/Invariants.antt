@@ -1,5 +1,5 @@
 use Rattle.std.proofs.Common.{◌≡◌, drop, false}
-use Rattle.http_wire.specs.Taking.{empty_lines_after}
+use Rattle.http_wire.specs.NextMessage.{empty_lines_after}
 use Rattle.http_wire.proofs.empty_lines.is_empty_lines.Given as goal
 
 abbrev pub invariant-loop-byte : goal.invariant-loop-byte

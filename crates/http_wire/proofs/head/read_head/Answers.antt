@@ -4,11 +4,11 @@ use Rattle.http_wire.proofs.HeadLemmas.{long_head, never_head, settled}
 use Rattle.http_wire.proofs.WindowLemmas.{lacks_head, room_suffices}
 use Rattle.http_wire.proofs.head.read_head.Goals as goal
 
-pub settle-requires-clause-short : goal.settle-requires-clause-short
-settle-requires-clause-short c = rw c.front-window.ensures (omega (arith, length-take 16384 c.args.buf.now))
+pub judge_head-requires-clause-short : goal.judge_head-requires-clause-short
+judge_head-requires-clause-short c = rw c.front-window.ensures (omega (arith, length-take 16384 c.args.buf.now))
 
 pub returns-in-Ok-Complete : goal.returns-in-Ok-Complete
-returns-in-Ok-Complete c = settled c.args.buf.now c.settle.result (rw c.front-window.ensures at c.settle.ensures)
+returns-in-Ok-Complete c = settled c.args.buf.now c.judge_head.result (rw c.front-window.ensures at c.judge_head.ensures)
 
 pub returns-then-buf-lt-LONGEST_HEAD : goal.returns-then-buf-lt-LONGEST_HEAD
 returns-then-buf-lt-LONGEST_HEAD c =

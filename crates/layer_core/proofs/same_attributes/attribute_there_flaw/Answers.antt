@@ -5,7 +5,7 @@ use Rattle.std.specs.Ordering.{nat_cmp}
 use Rattle.mark_base.specs.declared.ann_id.AnnId.{AnnId}
 use Rattle.mark_base.specs.declared.ann_id.Kind.TheVariants as letter
 use Rattle.layer_model.specs.declared.rule.Rule.TheVariants.{AttributeThere}
-use Rattle.layer_core.specs.FirstSeen.{attribute_key, keyed, repeat_after, shown}
+use Rattle.layer_core.specs.Repeats.{attribute_key, keyed, repeat_after, shown}
 use Rattle.layer_core.proofs.PairLemmas.{flaw_of}
 use Rattle.layer_core.proofs.SameAttributeLemmas.{attribute_found}
 use Rattle.layer_core.proofs.same_attributes.attribute_there_flaw.Goals as goal

@@ -1,6 +1,6 @@
 use Rattle.std.proofs.Common.{◌++◌, map, sym, ◌∙◌, ap, append-nil}
 use Rattle.layer_model.proofs.Maps.{same_list}
-use Rattle.layer_core.specs.FirstSeen.{attribute_key, keyed, shown}
+use Rattle.layer_core.specs.Repeats.{attribute_key, keyed, shown}
 use Rattle.layer_core.proofs.same_attributes.push_attributes.Goals as goal
 
 pub returns : goal.returns

@@ -1,5 +1,5 @@
 use Rattle.std.proofs.Common.{◌≡◌, ◌++◌, map}
-use Rattle.layer_core.specs.FirstSeen.{attribute_key, keyed, shown}
+use Rattle.layer_core.specs.Repeats.{attribute_key, keyed, shown}
 use Rattle.layer_core.proofs.same_attributes.push_attributes.Given as goal
 
 abbrev pub invariant-loop-number : goal.invariant-loop-number

@@ -1,7 +1,7 @@
 use Rattle.std.proofs.Common.{◌++◌, map, sym, ◌∙◌, ap, append-nil}
 use Rattle.mark_base.specs.declared.ann_id.Kind.TheVariants as letter
 use Rattle.layer_model.proofs.Maps.{same_list}
-use Rattle.layer_core.specs.FirstSeen.{keyed, shown, relation_key}
+use Rattle.layer_core.specs.Repeats.{keyed, shown, relation_key}
 use Rattle.layer_core.proofs.same_relations.keyed_relations.Goals as goal
 
 pub returns : goal.returns

@@ -1,6 +1,6 @@
 use Rattle.std.proofs.Common.{◌≡◌, ◌++◌, map}
 use Rattle.mark_base.specs.declared.ann_id.Kind.TheVariants as letter
-use Rattle.layer_core.specs.FirstSeen.{keyed, shown, relation_key}
+use Rattle.layer_core.specs.Repeats.{keyed, shown, relation_key}
 use Rattle.layer_core.proofs.same_relations.keyed_relations.Given as goal
 
 abbrev pub invariant-loop-number : goal.invariant-loop-number

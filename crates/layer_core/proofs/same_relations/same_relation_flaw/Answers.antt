@@ -3,7 +3,7 @@ use Rattle.std.specs.FinMap as finite
 use Rattle.std.specs.Option.{option_map}
 use Rattle.mark_base.specs.declared.ann_id.Kind.TheVariants as letter
 use Rattle.layer_model.specs.declared.rule.Rule.TheVariants.{SameRelation}
-use Rattle.layer_core.specs.FirstSeen.{keyed, repeat_after, shown, relation_key}
+use Rattle.layer_core.specs.Repeats.{keyed, repeat_after, shown, relation_key}
 use Rattle.layer_core.proofs.PairLemmas.{flaw_of}
 use Rattle.layer_core.proofs.SameRelationLemmas.{same_relation_found}
 use Rattle.layer_core.proofs.same_relations.same_relation_flaw.Goals as goal

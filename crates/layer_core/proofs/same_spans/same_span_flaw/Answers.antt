@@ -3,7 +3,7 @@ use Rattle.std.specs.FinMap as finite
 use Rattle.std.specs.Option.{option_map}
 use Rattle.mark_base.specs.declared.ann_id.Kind.TheVariants as letter
 use Rattle.layer_model.specs.declared.rule.Rule.TheVariants.{SameSpan}
-use Rattle.layer_core.specs.FirstSeen.{keyed, repeat_after, shown, span_key}
+use Rattle.layer_core.specs.Repeats.{keyed, repeat_after, shown, span_key}
 use Rattle.layer_core.proofs.PairLemmas.{flaw_of}
 use Rattle.layer_core.proofs.SameSpanLemmas.{same_span_found}
 use Rattle.layer_core.proofs.same_spans.same_span_flaw.Goals as goal

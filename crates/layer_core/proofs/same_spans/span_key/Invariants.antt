@@ -1,6 +1,6 @@
 use Rattle.std.proofs.Common.{◌≡◌, ◌++◌, drop}
 use Rattle.std.specs.List.{flat_map}
-use Rattle.layer_core.specs.FirstSeen.{frag_key, span_key}
+use Rattle.layer_core.specs.Repeats.{frag_key, span_key}
 use Rattle.layer_core.proofs.same_spans.span_key.Given as goal
 
 abbrev pub invariant-loop-frag : goal.invariant-loop-frag

@@ -1,5 +1,5 @@
 use Rattle.std.proofs.Common.{length, sym, ◌∙◌, option_map}
-use Rattle.layer_core.specs.Made.{draft_of}
+use Rattle.layer_core.specs.DraftShows.{draft_of}
 use Rattle.layer_core.proofs.WorkLemmas.{done_by, refused_by}
 use Rattle.layer_core.proofs.work.accepted.Goals as goal
 

@@ -1,31 +1,13 @@
 use Rattle.std.proofs.Common.{◌+◌, ◌∙◌, ap}
-use Rattle.std.specs.List.{filter}
-use Rattle.std.specs.BTreeMap.Range.{range_contains}
-use Rattle.std.specs.declared.ops.Bound.TheVariants.{Included, Excluded}
-use Rattle.overlap_rules.specs.Buckets.{held_in, place_cmp, bucket_of}
-use Rattle.overlap_rules.proofs.NearLemmas.{looks_more, looks_found, looks_all}
+use Rattle.overlap_rules.specs.Buckets.{held_in}
+use Rattle.overlap_rules.proofs.NearLemmas.{near_both}
 use Rattle.overlap_rules.proofs.span_index.lowest_near.Goals as goal
-use Rattle.overlap_rules.proofs.span_index.lowest_near.Goals.{else-is_below-via-then-is_below+else-passes, else-is_below-via-else-is_below}
-
-pub loop-number-preserved-then-passes : goal.loop-number-preserved-then-passes
-loop-number-preserved-then-passes g c =
-    looks_found _ (held_in c.args.spans.now.entries) c.args.frags.now c.args.skip c.args.before c.into_iter-number-iterator.result c.loop-number.number-iterator c.next.new.self c.in-Some.field-0.now c.loop-number.found
-    c.in-Some.ensures.steps (c.is_below.ensures.yes c.if-is_below.true) (c.passes.ensures.yes c.if-passes.true) c.loop-number.invariant
-
-pub loop-number-preserved : goal.loop-number-preserved
-loop-number-preserved g c =
-    looks_more _ (held_in c.args.spans.now.entries) c.args.frags.now c.args.skip c.args.before c.into_iter-number-iterator.result c.loop-number.number-iterator c.next.new.self c.in-Some.field-0.now c.loop-number.found
-    c.in-Some.ensures.steps
-    (elim c.else-is_below.branch [
-      | else-is_below-via-then-is_below+else-passes w ↦ λ _. w.passes.ensures.no w.if-passes.false
-      | else-is_below-via-else-is_below w ↦ λ below. absurd (c.is_below.ensures.no w.if-is_below.false below)
-    ]) c.loop-number.invariant
 
 pub returns-clause-others : goal.returns-clause-others
 returns-clause-others g c number near below =
-    looks_all _ (held_in c.args.spans.now.entries) c.args.frags.now c.args.skip c.args.before c.args.places.now c.into_iter-number-iterator.result c.loop-number.number-iterator c.loop-number.found c.args.near.now
-    c.in-None.ensures.steps.0
-    (c.into_iter-number-iterator.ensures.into_iter_gives ∙ c.range-number-items.ensures.between tt
-    ∙ ap (λ first. filter (range_contains place_cmp (Included (first, 0)) (Excluded (c.last_bucket.result + 1, 0))) c.args.places.now.keys) c.first_bucket.ensures
-    ∙ ap (λ last. filter (range_contains place_cmp (Included (bucket_of c.args.near.now.start, 0)) (Excluded (last + 1, 0))) c.args.places.now.keys) c.last_bucket.ensures.bucket)
-    c.loop-number.invariant number near below
+    near_both (λ number kind answer. g.F.Fn.post c.args.test.now (number, (kind, tt)) answer) (held_in c.args.spans.now.entries) c.args.frags.now c.args.skip c.args.covered.now c.args.begun.now c.args.near.now c.first_bucket-first.result (c.last_bucket-behind.result + 1) c.lowest_between-found.result c.lowest_between.result
+    c.first_bucket-first.ensures (ap (λ n. n + 1) c.last_bucket-behind.ensures.bucket) c.lowest_between.ensures.lower
+    c.lowest_between-found.ensures.others c.lowest_between.ensures.others number near below
+
+pub returns-clause-lower : goal.returns-clause-lower
+returns-clause-lower g c number below = c.lowest_between-found.ensures.lower number (c.lowest_between.ensures.lower number below)

@@ -1,7 +1,7 @@
 use Rattle.std.proofs.Common.{◌≡◌, ◌<◌, ℕ, List, Bool, All, Some, length, map, sym, ap, ◌∙◌, subst}
 use Rattle.std.specs.List.{filter}
-use Rattle.content_keys.specs.declared.places.Placed.{Placed}
-use Rattle.content_keys.specs.declared.places.PlacedLayer.{PlacedLayer}
+use Rattle.content_keys.specs.declared.placed_layer.Placed.{Placed}
+use Rattle.content_keys.specs.declared.placed_layer.PlacedLayer.{PlacedLayer}
 use Rattle.unanimous_merge.specs.Readings.{readings}
 use Rattle.unanimous_merge.specs.Rows.{classes_at, each_has, having}
 use Rattle.unanimous_merge.specs.Unanimous.{unanimous_classes, unanimous_ids}

@@ -1,6 +1,6 @@
 use Rattle.std.proofs.Common.{◌∙◌, ap, nat_cmp, option_map}
 use Rattle.std.specs.BTreeMap.{get}
-use Rattle.layer_core.specs.Ids.{id_place}
+use Rattle.layer_model.specs.LayerIds.{id_place}
 use Rattle.ann_reader.specs.Lines.{Line}
 use Rattle.ann_reader.specs.LineFaults.{headed_by}
 use Rattle.ann_reader.proofs.known_lines.KnownLines.head.Goals as goal

@@ -5,7 +5,7 @@ use Rattle.std.proofs.lemmas.List.Sorted.{IsPartitionedBy-leb, IsPartitionPoint-
 use Rattle.annotation_conf.specs.declared.known_names.DeclaredName.{DeclaredName}
 use Rattle.annotation_conf.specs.ConfFaults.{Declared}
 use Rattle.annotation_conf.specs.FirstFaults.{IsRising}
-use Rattle.annotation_conf.specs.NamesKnown.{seen_declared}
+use Rattle.annotation_conf.specs.NamePlaces.{seen_declared}
 use Rattle.annotation_conf.proofs.FaultNames.{count_up_to, rising_goes, rising_of_map}
 use Rattle.annotation_conf.proofs.known_names.Names.count_up_to.Goals as goal
 

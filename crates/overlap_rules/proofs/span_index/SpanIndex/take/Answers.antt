@@ -9,8 +9,8 @@ use Rattle.overlap_rules.proofs.span_index.SpanIndex.take.Goals as goal
 pub invariant_of-self : goal.invariant_of-self
 invariant_of-self c =
     let before : Held = held_in c.self.inside.spans.entries in
-    subst (λ held. IsKept held c.take_near.new.places) (sym (removed _ _ c.args.number c.remove.ensures.updates.0))
-    (kept_remove before c.self.inside.places c.take_near.new.places c.args.number c.self.invariant c.take_near.ensures)
+    subst (λ held. IsKept held c.take_near.new.places c.take_starts.new.places) (sym (removed _ _ c.args.number c.remove.ensures.updates.0))
+    (kept_remove before c.self.inside.covered c.self.inside.begun c.take_near.new.places c.take_starts.new.places c.args.number c.self.invariant c.take_near.ensures c.take_starts.ensures)
 
 pub returns-in-Some-clause-left : goal.returns-in-Some-clause-left
 returns-in-Some-clause-left c =

@@ -1,7 +1,0 @@
-use Rattle.std.proofs.Common.{◌≡◌, map, take}
-use Rattle.annotation_conf.specs.NamesKnown.{seen_declared}
-use Rattle.annotation_conf.specs.KnownFiles.{type_declared}
-use Rattle.annotation_conf.proofs.faults_known.type_names.Given as goal
-
-abbrev pub invariant-loop-line : goal.invariant-loop-line
-invariant-loop-line l = map seen_declared l.names.items ≡ map type_declared (take l.line-index l.lines)

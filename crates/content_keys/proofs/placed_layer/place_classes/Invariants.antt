@@ -1,0 +1,14 @@
+use Rattle.std.proofs.Common.{◌≡◌, ◌<◌, length, map, take, All, slice_index}
+use Rattle.content_keys.specs.LayerContents.{class_content, content_of}
+use Rattle.content_keys.specs.Places.{AreRight}
+use Rattle.content_keys.specs.Tables.{Starts, values}
+use Rattle.content_keys.proofs.placed_layer.place_classes.Given as goal
+
+abbrev pub invariant-loop-class : goal.invariant-loop-class
+invariant-loop-class l = record {
+  right : AreRight l.layer l.table l.places;
+  contents : map (slice_index (values l.table)) l.placed.items ≡ map (class_content (content_of l.layer)) (take l.class-index l.class-items);
+  within : All (λ place. place < length l.table) l.placed.items;
+  grown : Starts l.initial.table l.table;
+  classes : l.class-items ≡ l.layer.classes;
+}

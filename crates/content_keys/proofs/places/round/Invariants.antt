@@ -1,6 +1,0 @@
-use Rattle.content_keys.specs.Places.{AreRight, Rounds}
-use Rattle.content_keys.specs.Tables.{Starts}
-use Rattle.content_keys.proofs.places.round.Given as goal
-
-abbrev pub invariant-loop-id : goal.invariant-loop-id
-invariant-loop-id l = AreRight l.layer l.table l.places × Rounds l.layer l.ids l.initial.places l.places l.id-index × Starts l.initial.table l.table

@@ -1,9 +1,0 @@
-use Rattle.std.proofs.Common.{◌≡◌, ◌||◌, drop, map}
-use Rattle.std.specs.List.{list_any}
-use Rattle.layer_core.specs.PairRules.{is_id}
-use Rattle.layer_core.proofs.falling.leads_to_fallen.Given as goal
-
-abbrev pub invariant-loop-arg : goal.invariant-loop-arg
-invariant-loop-arg l =
-    list_any (λ named. is_id l.gone named || list_any (is_id named) l.fallen) (map (λ arg. arg.target) (drop l.arg-index l.args))
-    ≡ list_any (λ named. is_id l.gone named || list_any (is_id named) l.fallen) (map (λ arg. arg.target) l.args)

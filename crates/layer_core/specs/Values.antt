@@ -1,9 +1,0 @@
--- The value that a command gives to an attribute, as the code keeps it (private calls only).
-use Rattle.layer_core.specs.declared.valued.Valued as kept
-use Rattle.layer_core.specs.declared.valued.Valued.TheVariants as given
-use Rattle.layer_core.specs.Fields.{Valued, Undeclared, Declared}
-
--- the value that is meant
-abbrev pub valued_of : kept.Valued → Valued
-valued_of given.Undeclared = Undeclared
-valued_of (given.Declared value) = Declared value
