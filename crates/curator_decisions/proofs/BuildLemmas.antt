@@ -5,7 +5,7 @@ use Rattle.std.proofs.lemmas.List.{take_more}
 use Rattle.std.proofs.lemmas.List.Elements.{filter_map-append}
 use Rattle.std.proofs.lemmas.List.Sums.{fold-append}
 use Rattle.mark_base.specs.declared.ann_id.AnnId.{AnnId}
-use Rattle.mark_base.specs.declared.places.RelId.{RelId}
+use Rattle.mark_base.specs.declared.table_places.RelId.{RelId}
 use Rattle.layer_model.specs.declared.class.Class.{Class}
 use Rattle.layer_model.specs.Classes.{apart, comes_before, insert_class, joined, joined_class, shares}
 use Rattle.curator_decisions.specs.Curated.{all_new}

@@ -14,8 +14,8 @@ use Rattle.layer_model.specs.Classes.{AreClasses, letter_place, rank}
 use Rattle.layer_model.specs.Layers.{IsLayer, mark_at, with_mark, with_marked}
 use Rattle.mark_base.specs.declared.ann_id.Kind.TheVariants as letter
 use Rattle.layer_model.specs.declared.mark.Mark.TheVariants as marked
-use Rattle.content_keys.specs.declared.places.Placed.{Placed}
-use Rattle.content_keys.specs.declared.places.PlacedLayer.{PlacedLayer}
+use Rattle.content_keys.specs.declared.placed_layer.Placed.{Placed}
+use Rattle.content_keys.specs.declared.placed_layer.PlacedLayer.{PlacedLayer}
 use Rattle.content_keys.specs.Contents.{content, content_at}
 use Rattle.content_keys.specs.Founds.{first_at}
 use Rattle.content_keys.specs.LayerContents.{content_of, contents_of, ids_of, node_of}

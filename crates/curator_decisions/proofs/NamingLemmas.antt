@@ -17,8 +17,8 @@ use Rattle.layer_model.specs.Annotations.{Annotations}
 use Rattle.layer_model.specs.Coherent.{trigger_id}
 use Rattle.layer_model.specs.Layers.{mark_of}
 use Rattle.layer_model.specs.Classes.{rank}
-use Rattle.content_keys.specs.declared.places.Placed.{Placed}
-use Rattle.content_keys.specs.declared.places.PlacedLayer.{PlacedLayer}
+use Rattle.content_keys.specs.declared.placed_layer.Placed.{Placed}
+use Rattle.content_keys.specs.declared.placed_layer.PlacedLayer.{PlacedLayer}
 use Rattle.content_keys.specs.LayerContents.{content_of, contents_of, ids_of, link_of, node_of, node_of_mark}
 use Rattle.content_keys.specs.Nodes.{IsIn, Node}
 use Rattle.content_keys.specs.Places.{contents_at}

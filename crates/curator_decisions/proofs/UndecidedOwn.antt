@@ -8,7 +8,7 @@ use Rattle.mark_base.specs.declared.ann_id.AnnId.{AnnId}
 use Rattle.mark_base.specs.declared.ann_id.Kind.{Kind}
 use Rattle.mark_base.specs.declared.ann_id.Kind.TheVariants as letter
 use Rattle.mark_base.specs.declared.arguments.Arg.{Arg}
-use Rattle.mark_base.specs.declared.places.TypeId.{TypeId}
+use Rattle.mark_base.specs.declared.table_places.TypeId.{TypeId}
 use Rattle.mark_base.specs.ReadIds.{id_at}
 use Rattle.mark_base.proofs.IdLemmas.{id_at-id}
 use Rattle.annotation_conf.specs.declared.attr_target.AttrTarget.{AttrTarget}
@@ -24,7 +24,7 @@ use Rattle.layer_model.specs.declared.rule.RoleAt.TheVariants as role
 use Rattle.layer_model.specs.Annotations.{Annotations}
 use Rattle.layer_model.specs.Coherent.{named, trigger_id}
 use Rattle.layer_model.specs.Layers.{has, mark_at, mark_of}
-use Rattle.layer_core.specs.Places.{by_place}
+use Rattle.layer_core.specs.FlawPlaces.{by_place}
 use Rattle.layer_core.specs.Rules.{Wanted, argument, argument_type, bad_fragments, class_not_for_use, filled, first_missing, first_unwanted, is_refused_argument, member, named_by, not_for_use, out_of_text, relation_types, span_too_long, too_many, trigger, unknown_class, unknown_role, unknown_type, unknown_value, wanted_by, where_so}
 use Rattle.layer_core.specs.PairRules.{bad_text}
 use Rattle.layer_core.specs.Targets.{is_argument, is_attribute_target, is_member, is_normal_target, is_note_target, is_trigger, target_by, target_of, type_by, type_of}

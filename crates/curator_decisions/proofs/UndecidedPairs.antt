@@ -25,8 +25,8 @@ use Rattle.layer_model.specs.Annotations.{Annotations}
 use Rattle.layer_model.specs.Classes.{rank}
 use Rattle.layer_model.specs.Coherent.{named, trigger_id}
 use Rattle.layer_model.specs.Layers.{mark_at, mark_of}
-use Rattle.layer_core.specs.Ids.{ids_of}
-use Rattle.layer_core.specs.Places.{by_place}
+use Rattle.layer_model.specs.LayerIds.{ids_of}
+use Rattle.layer_core.specs.FlawPlaces.{by_place}
 use Rattle.layer_core.specs.Rules.{where_so}
 use Rattle.layer_core.specs.PairRules.{are_bad_members, begins_longer_chain, equiv_members, is_arg, is_event_id, is_id, letter_is_event, lower_pair, may_be_equal, refused_overlap, same_attributes, same_bag, same_events, same_relations, same_spans, too_deep}
 use Rattle.layer_core.specs.Targets.{type_of}

@@ -21,8 +21,8 @@ use Rattle.layer_model.specs.Annotations.{Annotations}
 use Rattle.layer_model.specs.Classes.{rank}
 use Rattle.layer_model.specs.Coherent.{named, trigger_id}
 use Rattle.layer_model.specs.Layers.{has_number, mark_at, mark_of, numbers}
-use Rattle.layer_core.specs.Ids.{ids_of, ids_of_letter}
-use Rattle.layer_core.specs.Places.{by_place}
+use Rattle.layer_model.specs.LayerIds.{ids_of, ids_of_letter}
+use Rattle.layer_core.specs.FlawPlaces.{by_place}
 use Rattle.layer_core.specs.Rules.{named_by, where_so}
 use Rattle.layer_core.specs.WellFormed.{Never}
 use Rattle.content_keys.specs.Nodes.{IsIn}

@@ -10,8 +10,8 @@ use Rattle.layer_model.specs.declared.mark.Mark.{Mark}
 use Rattle.layer_model.specs.Annotations.{Annotations}
 use Rattle.layer_model.specs.Classes.{letter_place, rank}
 use Rattle.layer_model.specs.Layers.{mark_at}
-use Rattle.content_keys.specs.declared.places.Placed.{Placed}
-use Rattle.content_keys.specs.declared.places.PlacedLayer.{PlacedLayer}
+use Rattle.content_keys.specs.declared.placed_layer.Placed.{Placed}
+use Rattle.content_keys.specs.declared.placed_layer.PlacedLayer.{PlacedLayer}
 use Rattle.unanimous_merge.specs.declared.entry.Entry.{Entry}
 use Rattle.unanimous_merge.specs.Rows.{each_has}
 use Rattle.curator_decisions.specs.declared.numbering.NumberedEntry.{NumberedEntry}

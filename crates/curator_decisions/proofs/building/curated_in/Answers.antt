@@ -6,7 +6,7 @@ use Rattle.layer_model.specs.declared.mark.Mark.{Mark}
 use Rattle.layer_model.specs.Annotations.{Annotations, no_marks}
 use Rattle.layer_model.specs.Classes.{joined}
 use Rattle.layer_model.specs.Layers.{with_classes, with_mark}
-use Rattle.content_keys.specs.declared.places.PlacedLayer.{PlacedLayer}
+use Rattle.content_keys.specs.declared.placed_layer.PlacedLayer.{PlacedLayer}
 use Rattle.content_keys.specs.Founds.{first_at}
 use Rattle.unanimous_merge.specs.Readings.{readings}
 use Rattle.curator_decisions.specs.declared.numbering.NumberedEntry.{NumberedEntry}

@@ -1,6 +1,6 @@
 use Rattle.std.proofs.Common.{ℕ, Bool, cond, List, map, sym, ap, ◌∙◌, subst, option_map}
 use Rattle.std.specs.BTreeMap.{BTreeMap}
-use Rattle.content_keys.specs.declared.places.PlacedLayer.{PlacedLayer}
+use Rattle.content_keys.specs.declared.placed_layer.PlacedLayer.{PlacedLayer}
 use Rattle.unanimous_merge.specs.declared.entry.Entry.{Entry}
 use Rattle.unanimous_merge.specs.Items.{Held}
 use Rattle.unanimous_merge.specs.Readings.{readings}

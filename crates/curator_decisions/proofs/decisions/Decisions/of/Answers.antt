@@ -1,6 +1,6 @@
 use Rattle.std.proofs.Common.{◌≡◌, ◌<◌, ℕ, Bool, false, get_or, length, map, is_some, List, Some, None, sym, ap, ◌∙◌, subst}
 use Rattle.std.specs.List.{list_all}
-use Rattle.content_keys.specs.declared.places.PlacedLayer.{PlacedLayer}
+use Rattle.content_keys.specs.declared.placed_layer.PlacedLayer.{PlacedLayer}
 use Rattle.unanimous_merge.specs.Readings.{readings}
 use Rattle.curator_decisions.specs.DecisionFaults.{decision_fault, layer_fault}
 use Rattle.curator_decisions.specs.Decisions.{Decided}
