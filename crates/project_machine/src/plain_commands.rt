@@ -1,4 +1,4 @@
-//! Commands and scripts, read from the front of bytes.
+//! Commands that load no layer, each read from the front of bytes behind its tag.
 ghost use Rattle.std.specs.Prelude.{Some};
 ghost use Rattle.project_machine.specs.CommandReading.{ReadsCommand, add_span_at, retype_span_at, move_span_at, add_event_at, add_arg_at, remove_arg_at, add_relation_at, set_attribute_at, clear_attribute_at, equate_at, unequate_at, set_note_at, set_reference_at, delete_at, purge_at, plain_at};
 
