@@ -15,7 +15,9 @@ ghost use Rattle.layer_core.specs.MadeLayers.{event_of, is_note_on, is_reference
 ghost use Rattle.layer_core.specs.CommandFields.{attribute_on, first_naming, in_use, is_attribute_on, is_in_trigger, trigger_in_use};
 
 use crate::targets::is_id;
-use layer_model::{Attribute, Event, Layer, Relation, Rule, Span, id_at, ids_of, ids_of_letter};
+use layer_model::{
+    Attribute, Event, Layer, Relation, Rule, Span, id_at, ids_of, ids_of_letter, push_ids,
+};
 use mark_base::{AnnId, Arg, AttrId, Kind, Memory, Name};
 use std::alloc::Global;
 use std::collections::BTreeMap;
@@ -210,8 +212,8 @@ pub(crate) fn attribute_on(
     ensures value { IfOk result (λ found. found ≡ attribute_on layer.now kind.n target) }
 {
     let mut ids = Vec::new(alloc);
-    push_ids(&mut ids, Kind::Attribute, layer.attributes())?;
-    push_ids(&mut ids, Kind::Legacy, layer.legacy())?;
+    push_ids(&mut ids, layer, Kind::Attribute)?;
+    push_ids(&mut ids, layer, Kind::Legacy)?;
     Ok(first_on(layer, &ids, kind, target))
 }
 

@@ -10,8 +10,7 @@ ghost use Rattle.layer_core.specs.Targets.{is_event_type};
 ghost use Rattle.layer_core.specs.Rules.{argument, argument_type, bad_fragments, filled, first_missing, first_unwanted, is_barred_type, is_refused_argument, member, named_by, out_of_text, span_too_long, too_many, unknown_role, unknown_value, wanted_by, where_so};
 
 use crate::targets::{
-    id_at, is_argument, is_attribute_target, is_event_type, is_member, is_trigger, target_of,
-    type_of,
+    is_argument, is_attribute_target, is_event_type, is_member, is_trigger, target_of, type_of,
 };
 use annotation_conf::Conf;
 use layer_model::{Attribute, Event, Layer, Relation, RoleAt, Rule, Span, id_at};
