@@ -1,4 +1,4 @@
-//! Tests of `entry_bytes`, `project_journal` and `project_book`: entries both ways, a disk that stops at each of its
+//! Tests of `entry_bytes`, `project_journal` and `project_machine`: entries both ways, a disk that stops at each of its
 //! calls, files by their bytes, and rosters.
 #![tactic(auto)]
 

@@ -1,7 +1,7 @@
 //! Rosters with each fault, and people in the order of their names.
 use entry_bytes::Person;
 use mark_base::Slug;
-use project_book::{Roster, RosterFault};
+use project_machine::{Roster, RosterFault};
 use std::alloc::Global;
 use std::test::Fail;
 
