@@ -148,7 +148,8 @@ fn all_items(entries: &[Entry], pairs: &[(ItemId, Verdict)]) -> bool
 impl Decisions {
     /// Sets the verdict on an item, in place of one that stood. The snapshot's layers are well-formed. A refusal
     /// leaves the decisions as they were: `NoItem`, `AlreadyIn` and `NotIn` of the item, then `NeedsItem`, then
-    /// `Broken`. Cost: one curated layer and one check of it, and of each item that is in what it names.
+    /// `Broken`. Cost: one curated layer and one check of it, of each item that is in what it names, and for
+    /// each item the number of decisions.
     pub fn decide(
         &mut self,
         snapshot: &Snapshot,
