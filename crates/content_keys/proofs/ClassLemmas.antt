@@ -44,7 +44,7 @@ module _ (l : Annotations) (ss : List (Node ℕ)) (places : BTreeMap ℕ ℕ) (r
     rising = c.0.rising;
   }
 
-  class_number : (u : Node ℕ) → Carries place s (Some u) → number (read (values ss)) u ≡ class_content (content_of l) class
+  pub class_number : (u : Node ℕ) → Carries place s (Some u) → number (read (values ss)) u ≡ class_content (content_of l) class
   class_number u c = carried_number (moved_to place) (content_of l) (read (values ss)) s u c.0 (λ y n. sym (right y (moved_to place y) (c.1 y n)).1)
 
   -- each member has a place, so none is lost

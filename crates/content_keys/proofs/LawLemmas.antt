@@ -1,8 +1,9 @@
 -- The counterpart is the lowest annotation of the other layer with the same content, and contents are equal where the parts are.
-use Rattle.std.proofs.Common.{◌≡◌, ℕ, ◌<◌, ◌≤◌, min, Bool, true, false, ◌&&◌, cond, T, List, [], ◌∷◌, ◌++◌, map, refl, sym, ap, ◌∙◌, subst, arith, inl, inr, Option, Some, None, IsSome, option_and_then, ◌↔◌}
+use Rattle.std.proofs.Common.{◌≡◌, ℕ, zero, suc, ◌<◌, ◌≤◌, length, get_or, min, Bool, true, false, ◌&&◌, cond, T, List, [], ◌∷◌, ◌++◌, map, refl, sym, ap, ◌∙◌, subst, arith, inl, inr, Option, Some, None, IsSome, option_and_then, ◌↔◌}
 use Rattle.std.proofs.lemmas.Bool.Decides.{eqb_tells}
 use Rattle.std.proofs.lemmas.Option.{same_Some}
 use Rattle.std.specs.List.{AllByRecursion}
+use Rattle.std.specs.List.Sorted.{IsNonDecreasingBy}
 use Rattle.std.specs.Map.{keys_of}
 use Rattle.std.specs.Ordering.{nat_cmp, is_lt}
 use Rattle.std.specs.Cmp.{ranked}
@@ -109,6 +110,23 @@ ids_up l =
     (joined letter.Attribute (finite.entries l.attributes) 4 _ (entries_sorted l.attributes) (omega arith)
     (joined letter.Legacy (finite.entries l.legacy) 5 _ (entries_sorted l.legacy) (omega arith)
     (joined letter.Normal (finite.entries l.normals) 7 [] (entries_sorted l.normals) (omega arith) none)))))).up
+
+all_at : {X : Type 0} (P : X → Type 0) (xs : List X) → AllByRecursion P xs → (j : ℕ) (d : X) → j < length xs → P (get_or xs j d)
+all_at P [] h j d l = absurd (omega arith)
+all_at P (x ∷ xs) h zero d l = h.0
+all_at P (x ∷ xs) h (suc j) d l = all_at P xs h.1 j d (omega arith)
+
+up_rises : (xs : List AnnId) → Up xs → IsNonDecreasingBy rank xs
+unfolding Up
+up_rises [] h i j d le l = absurd (omega arith)
+up_rises (x ∷ xs) h zero zero d le l = let same : rank x ≤ rank x = omega arith in same
+up_rises (x ∷ xs) h zero (suc j) d le l = all_at (λ y. rank x ≤ rank y) xs h.0 j d (omega arith)
+up_rises (x ∷ xs) h (suc i) zero d le l = absurd (omega arith)
+up_rises (x ∷ xs) h (suc i) (suc j) d le l = up_rises xs h.1 i j d (omega arith) (omega arith)
+
+-- the IDs of a layer ascend by their ranks
+pub ids_rise : (l : Annotations) → IsNonDecreasingBy rank (ids_of l)
+ids_rise l = up_rises (ids_of l) (ids_up l)
 
 -- ---- what is found
 

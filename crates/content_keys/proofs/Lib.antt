@@ -13,9 +13,11 @@ pub mod MoveLemmas
 pub mod NodeLemmas
 pub mod NumberLemmas
 pub mod OneLemmas
+pub mod OnlyLemmas
 pub mod OrderLemmas
 pub mod PlaceLemmas
 pub mod PlacedLemmas
+pub mod SearchLemmas
 pub mod StartLemmas
 pub mod TableLemmas
 pub mod WordLemmas

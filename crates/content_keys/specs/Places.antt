@@ -39,3 +39,7 @@ contents_at contents placed = map (λ p. (p.id, slice_index contents p.place)) p
 pub record Rounds (layer : Annotations) (ids : List AnnId) (old new : BTreeMap ℕ ℕ) (index : ℕ) : Type 0 where
   pub keeps : Keeps old new
   pub done : (depth : ℕ) → ArePlaced depth layer old → (k : ℕ) (d : AnnId) → k < index → IsBuilt (node_of layer) (suc depth) (slice_index_or ids k d) → IsSome (place_of new (slice_index_or ids k d))
+
+-- the content of an annotation of a layer
+abbrev pub IsOfMark : Annotations → ℕ → Type 0
+IsOfMark layer content = (id : AnnId) × (IsSome (node_of layer id) × (content ≡ content_of layer id))

@@ -67,3 +67,7 @@ pub record IsAdded (ss : List (Node ℕ)) (s : Node ℕ) (t : List (Node ℕ)) (
   pub grows : (t ≡ ss) ⊎ (t ≡ ss ++ s ∷ [])
   pub within : i < length t
   pub here : (d : Node ℕ) → slice_index_or t i d ≡ s
+
+-- of the contents that the second list has behind those of the first, each passes
+abbrev pub AddsOnly : (ℕ → Type 0) → List ℕ → List ℕ → Type 0
+AddsOnly P old new = (place : ℕ) → length old ≤ place → place < length new → P (slice_index new place)

@@ -1,9 +1,10 @@
 //! The contents of several layers in one table.
-ghost use Rattle.std.specs.Prelude.{◌≡◌, ℕ, ◌<◌, [], length, map, All, IfOk, slice_index};
+ghost use Rattle.std.specs.Prelude.{◌≡◌, ◌++◌, ◌+◌, ◌≤◌, ℕ, ◌<◌, [], length, map, All, IfOk, slice_index};
 ghost use Rattle.layer_model.specs.Coherent.{IsCoherent};
 ghost use Rattle.content_keys.specs.LayerContents.{class_contents_of, contents_of};
+ghost use Rattle.content_keys.specs.Nodes.{IsIn};
 ghost use Rattle.content_keys.specs.Places.{contents_at};
-ghost use Rattle.content_keys.specs.Tables.{Starts};
+ghost use Rattle.content_keys.specs.Tables.{AddsOnly, Starts};
 
 use crate::placed_layer::{PlacedLayer, layer_placed_in};
 use crate::table::Table;
@@ -46,8 +47,9 @@ impl ContentTable {
     }
 
     /// The places of the annotations of a well-formed layer that have a content, and of its classes.
-    /// Contents that the table lacks are added behind its others, which keep their places, also where memory
-    /// is wanting. A table of 4,294,967,295 contents takes no more, and answers want of memory.
+    /// Contents that the table lacks are added behind its others, which keep their places, and none but those of
+    /// the layer, also where memory is wanting. A table of 4,294,967,295 contents takes no more, and answers want
+    /// of memory. So a table that is made anew of some layers has their contents and no others.
     /// Cost: 20 look-ups for each annotation, one for each class.
     pub fn place(&mut self, layer: &Layer) -> Result<PlacedLayer, Memory>
         requires { IsCoherent layer.now }
@@ -56,9 +58,13 @@ impl ContentTable {
         ensures within { IfOk result (λ placed. All (λ p. p.place < length self.new) placed.marks.items) }
         ensures classes_within { IfOk result (λ placed. All (λ place. place < length self.new) placed.classes.items) }
         ensures grown { Starts self.old self.new }
+        ensures only { AddsOnly (λ content. IsIn content (map (λ entry. entry.1) (contents_of layer.now) ++ class_contents_of layer.now)) self.old self.new }
+        ensures few { length self.new ≤ length self.old + (length (contents_of layer.now) + length (class_contents_of layer.now)) }
     {
         let alloc = self.table.allocator();
-        layer_placed_in(alloc, layer, &mut self.table)
+        let placed = layer_placed_in(alloc, layer, &mut self.table);
+        self.table.is_table();
+        placed
     }
 
     /// Tells a proof that no content has two places. It does nothing.

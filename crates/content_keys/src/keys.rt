@@ -25,6 +25,8 @@ pub struct Keys {
 
 impl Model for Keys {
     ghost use Rattle.std.specs.Prelude.{List, ℕ, ◌<◌, length, All};
+    ghost use Rattle.std.specs.List.Sorted.{IsNonDecreasingBy};
+    ghost use Rattle.layer_model.specs.Classes.{rank};
     ghost use Rattle.std.specs.Coded.{coded_list, coded×, coded_ℕ};
     ghost use Rattle.mark_base.specs.declared.ann_id.AnnId.{AnnId};
     ghost use Rattle.mark_base.specs.contracts.ann_id.AnnId as id_row;
@@ -37,7 +39,7 @@ impl Model for Keys {
 
     ghost view = { λ keys. contents_at (values keys.table) keys.placed.items };
 
-    ghost invariant = { λ keys. All (λ p. p.place < length keys.table) keys.placed.items };
+    ghost invariant = { λ keys. All (λ p. p.place < length keys.table) keys.placed.items × IsNonDecreasingBy (λ p. rank p.id) keys.placed.items };
 }
 
 /// For each place the first annotation there, so far as there is one.

@@ -1,5 +1,5 @@
 //! The annotations of a layer, placed in a table of contents.
-ghost use Rattle.std.specs.Prelude.{◌≡◌, ℕ, suc, ◌<◌, List, length, map, All, IfOk, IfSome, IsSome, OnOk, Some, option_map, slice_index};
+ghost use Rattle.std.specs.Prelude.{◌≡◌, ◌++◌, ℕ, suc, ◌<◌, List, length, map, All, IfOk, IfSome, IsSome, OnOk, Some, option_map, slice_index};
 ghost use Rattle.layer_model.specs.Coherent.{IsCoherent};
 ghost use Rattle.layer_model.specs.Layers.{IsLayer};
 ghost use Rattle.mark_base.specs.declared.ann_id.AnnId.{AnnId};
@@ -7,8 +7,8 @@ ghost use Rattle.content_keys.specs.Carrying.{all_linked, all_moved, Carries};
 ghost use Rattle.content_keys.specs.LayerContents.{class_content, class_contents_of, content_of, contents_of, ids_of, link_of, node_of};
 ghost use Rattle.content_keys.specs.Nodes.{IsIn, Names, number};
 ghost use Rattle.content_keys.specs.Parts.{made_of};
-ghost use Rattle.content_keys.specs.Places.{AreBuilt, ArePlaced, AreRight, Keeps, contents_at, place_of};
-ghost use Rattle.content_keys.specs.Tables.{MayAdd, Starts, values};
+ghost use Rattle.content_keys.specs.Places.{AreBuilt, ArePlaced, AreRight, IsOfMark, Keeps, contents_at, place_of};
+ghost use Rattle.content_keys.specs.Tables.{AddsOnly, MayAdd, Starts, values};
 
 use crate::carrying::order;
 use crate::ids::ids_of;
@@ -110,10 +110,12 @@ fn enter(
     requires may { MayAdd table.old shape }
     requires right { AreRight layer.now table.old places.old }
     requires number { number (slice_index (values table.old)) shape ≡ content_of layer.now id }
+    requires stands { IsSome (node_of layer.now id) }
     ensures right { OnOk result (AreRight layer.now table.new places.new) }
     ensures here { OnOk result (IsSome (place_of places.new id)) }
     ensures keeps { OnOk result (Keeps places.old places.new) }
     ensures grown { Starts table.old table.new }
+    ensures only { AddsOnly (IsOfMark layer.now) (values table.old) (values table.new) }
 {
     let place = table.add(alloc, shape)?;
     table.is_table();
@@ -135,6 +137,7 @@ fn try_place(
     ensures here { OnOk result ((s : _) → node_of layer.now id ≡ Some s → ((y : _) → Names y s → IsSome (place_of places.old y)) → IsSome (place_of places.new id)) }
     ensures keeps { OnOk result (Keeps places.old places.new) }
     ensures grown { Starts table.old table.new }
+    ensures only { AddsOnly (IsOfMark layer.now) (values table.old) (values table.new) }
 {
     if place_of(places, id).is_some() {
         return Ok(());
@@ -165,6 +168,7 @@ fn round(
     ensures right { OnOk result (AreRight layer.now table.new places.new) }
     ensures deeper { OnOk result ((depth : ℕ) → ArePlaced depth layer.now places.old → ArePlaced (suc depth) layer.now places.new) }
     ensures grown { Starts table.old table.new }
+    ensures only { AddsOnly (IsOfMark layer.now) (values table.old) (values table.new) }
 {
     for id in ids {
         try_place(alloc, layer, *id, table, places)?;
@@ -185,6 +189,7 @@ fn place_all(
     ensures right { IfOk result (λ places. AreRight layer.now table.new places) }
     ensures all { IfOk result (λ places. ArePlaced 19 layer.now places) }
     ensures grown { Starts table.old table.new }
+    ensures only { AddsOnly (IsOfMark layer.now) (values table.old) (values table.new) }
 {
     let mut places = BTreeMap::new(alloc);
     for _depth in 0..19u32 {
@@ -249,6 +254,7 @@ fn place_class(
     ensures right { OnOk result (AreRight layer.now table.new places.now) }
     ensures content { IfOk result (λ place. (place < length table.new) × (slice_index (values table.new) place ≡ class_content (content_of layer.now) class.now)) }
     ensures grown { Starts table.old table.new }
+    ensures only { AddsOnly (λ content. content ≡ class_content (content_of layer.now) class.now) (values table.old) (values table.new) }
 {
     let parts = class_parts(alloc, class)?;
     let Some(shape) = shape_of(alloc, places, parts)? else {
@@ -276,6 +282,7 @@ fn place_classes(
     ensures contents { IfOk result (λ placed. map (slice_index (values table.new)) placed.items ≡ class_contents_of layer.now) }
     ensures within { IfOk result (λ placed. All (λ place. place < length table.new) placed.items) }
     ensures grown { Starts table.old table.new }
+    ensures only { AddsOnly (λ content. IsIn content (class_contents_of layer.now)) (values table.old) (values table.new) }
 {
     let mut placed = Vec::new(alloc);
     for class in layer.classes() {
@@ -298,6 +305,7 @@ pub(crate) fn layer_placed_in(
     ensures within { IfOk result (λ placed. All (λ p. p.place < length table.new) placed.marks.items) }
     ensures classes_within { IfOk result (λ placed. All (λ place. place < length table.new) placed.classes.items) }
     ensures grown { Starts table.old table.new }
+    ensures only { AddsOnly (λ content. IsIn content (map (λ entry. entry.1) (contents_of layer.now) ++ class_contents_of layer.now)) (values table.old) (values table.new) }
 {
     layer.keeps();
     let ids = ids_of(alloc, layer)?;

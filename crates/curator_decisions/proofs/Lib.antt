@@ -23,3 +23,4 @@ pub mod UndecidedObeys
 pub mod UndecidedFaults
 pub mod DecidedVerdicts
 pub mod DecidedSteps
+pub mod SearchLemmas

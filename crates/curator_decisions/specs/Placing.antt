@@ -1,6 +1,7 @@
 -- The curated layer by the places of contents in one table (private calls).
-use Rattle.std.specs.Prelude.{◌≡◌, ⊤, ℕ, ◌+◌, ◌==◌, Bool, if◌then◌else◌, List, [], ◌∷◌, ◌++◌, count_by, Option, Some, None, option_map, option_and_then, slice_get, unwrap_or}
+use Rattle.std.specs.Prelude.{◌≡◌, ⊤, true, false, nat_lt, ℕ, ◌+◌, ◌==◌, Bool, if◌then◌else◌, List, [], ◌∷◌, ◌++◌, count_by, Option, Some, None, option_map, option_and_then, slice_get, unwrap_or}
 use Rattle.std.specs.Ordering.{nat_cmp}
+use Rattle.std.specs.List.Sorted.{IsPartitionPoint}
 use Rattle.std.specs.BTreeMap.{BTreeMap, get}
 use Rattle.mark_base.specs.declared.ann_id.AnnId.{AnnId}
 use Rattle.mark_base.specs.declared.ann_id.Kind.{Kind}
@@ -15,12 +16,16 @@ use Rattle.content_keys.specs.declared.placed_layer.PlacedLayer.{PlacedLayer}
 use Rattle.unanimous_merge.specs.declared.entry.Entry.{Entry}
 use Rattle.unanimous_merge.specs.Rows.{each_has}
 use Rattle.curator_decisions.specs.declared.numbering.NumberedEntry.{NumberedEntry}
-use Rattle.curator_decisions.specs.Decisions.{Decided, is_in_by, verdict_on}
+use Rattle.curator_decisions.specs.Decisions.{Decided, is_in_by, item_rank, verdict_on}
 use Rattle.curator_decisions.specs.Curated.{all_new, curated_letter, renamed}
 
 -- the item of an annotation is in, where `marks` tells which layer has which place
 abbrev pub is_in_at : List (List Bool) → Decided → Entry → Bool
 is_in_at marks decided entry = is_in_by (verdict_on entry.item decided) (each_has marks entry.place)
+
+-- the decisions before an index come before a place among all items, and those from there on do not
+abbrev pub IsEndBefore : Decided → ℕ → ℕ → Type 0
+IsEndBefore decided sought at = IsPartitionPoint (λ one. nat_lt (item_rank one.0) sought ≡ true) (λ one. nat_lt (item_rank one.0) sought ≡ false) decided at
 
 -- the letter of an item in a curated layer
 abbrev pub letter_of_entry : Entry → Kind

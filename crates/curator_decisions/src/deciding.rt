@@ -15,9 +15,9 @@ ghost use Rattle.curator_decisions.specs.Placing.{AreNames};
 
 use crate::building::curated_in;
 use crate::decision_fault::DecisionFault;
-use crate::decisions::Decisions;
+use crate::decisions::{Decisions, item_rank};
 use crate::naming::{
-    all_places, dependent_on, entry_as, lacked, missing_of, named_places, needed_places,
+    all_places, dependent_on, entry_as, item_ranks, lacked, missing_of, named_places, needed_places,
 };
 use crate::numbering::is_in;
 use crate::verdict::Verdict;
@@ -133,23 +133,24 @@ fn verdict_fault(is_in: bool, verdict: Verdict) -> Option<DecisionFault>
     }
 }
 
-/// Whether each decided item is one.
-fn all_items(entries: &[Entry], pairs: &[(ItemId, Verdict)]) -> bool
-    ensures { result ≡ list_all (λ one. is_some (entry_as entries.now one.0)) pairs.now }
+/// Whether each decided item is one. Cost: the items and the decisions, each as a look-up in an ordered set.
+fn all_items(alloc: Global, entries: &[Entry], pairs: &[(ItemId, Verdict)]) -> Result<bool, Memory>
+    ensures { IfOk result (λ all. all ≡ list_all (λ one. is_some (entry_as entries.now one.0)) pairs.now) }
 {
+    let ranks = item_ranks(alloc, entries)?;
     for one in pairs {
-        if entry_as(entries, one.0).is_none() {
-            return false;
+        if !ranks.contains(&item_rank(one.0)) {
+            return Ok(false);
         }
     }
-    true
+    Ok(true)
 }
 
 impl Decisions {
     /// Sets the verdict on an item, in place of one that stood. The snapshot's layers are well-formed. A refusal
     /// leaves the decisions as they were: `NoItem`, `AlreadyIn` and `NotIn` of the item, then `NeedsItem`, then
     /// `Broken`. Cost: one curated layer and one check of it, of each item that is in what it names, and for
-    /// each item the number of decisions.
+    /// each item the logarithm of the number of decisions.
     pub fn decide(
         &mut self,
         snapshot: &Snapshot,
@@ -217,8 +218,7 @@ impl Decisions {
 
     /// The decisions of a list in ascending order of items. The snapshot's layers are well-formed. Faults in
     /// order: `NoItem`, then `NeedsItem` with the lowest item that is not in and that an item in names, then
-    /// `Broken`. A list of more than 4,294,967,295 decisions answers want of memory. Cost: as `decide`, and the
-    /// items for each decision.
+    /// `Broken`. A list of more than 4,294,967,295 decisions answers want of memory. Cost: as `decide`.
     pub fn of(
         alloc: Global,
         snapshot: &Snapshot,
@@ -235,7 +235,8 @@ impl Decisions {
     {
         let decisions = Decisions::of_pairs(alloc, pairs)?;
         let merged = Merged::of(alloc, snapshot)?;
-        if !all_items(merged.firsts.as_slice(), pairs) {
+        let whole = all_items(alloc, merged.firsts.as_slice(), pairs)?;
+        if !whole {
             return Err(DecisionFault::NoItem);
         }
         let all = all_places(alloc, merged.rows.as_slice())?;

@@ -1,7 +1,9 @@
 //! A curator's decisions.
-ghost use Rattle.std.specs.Prelude.{◌≡◌, ◌≤◌, ◌<◌, ◌*◌, ◌+◌, [], insert, length, slice_get, slice_set, IfErr, IfOk, OnErr, OnOk};
+ghost use Rattle.std.specs.Prelude.{◌≡◌, ◌≤◌, ◌<◌, ◌*◌, ◌+◌, [], insert, length, slice_get, slice_index_or, slice_set, IfErr, IfOk, None, OnErr, OnOk, Some};
+ghost use Rattle.unanimous_merge.specs.declared.item.ItemId.{ItemId};
 ghost use Rattle.curator_decisions.specs.declared.verdict.Verdict.{Verdict};
 ghost use Rattle.curator_decisions.specs.Decisions.{Ascend, item_rank, verdict_on, with_verdict, without_verdict};
+ghost use Rattle.curator_decisions.specs.Placing.{IsEndBefore};
 
 use crate::verdict::Verdict;
 use layer_model::rank;
@@ -17,24 +19,32 @@ pub(crate) fn item_rank(item: ItemId) -> u64
     u64::from(item.holder) * 7_000_000_000 + rank(item.id)
 }
 
+/// Where the decisions end that come before a place among all items. Cost: the logarithm of their number.
+fn end_before(decided: &[(ItemId, Verdict)], sought: u64) -> usize
+    requires { Ascend decided.now }
+    ensures end { IsEndBefore decided.now sought result }
+    ensures within { result ≤ length decided.now }
+{
+    decided.partition_point(|one| item_rank(one.0) < sought)
+}
+
 /// Where a verdict on an item goes: in place of the one at the index of `Ok`, or before the one at that of `Err`.
+/// Cost: the logarithm of the number of decisions.
 fn place_of(decided: &[(ItemId, Verdict)], item: ItemId) -> Result<usize, usize>
+    requires { Ascend decided.now }
     ensures here { IfOk result (λ i. i < length decided.now) }
+    ensures stands { IfOk result (λ i. (one : ItemId × Verdict) → verdict_on item decided.now ≡ Some (slice_index_or decided.now i one).1) }
     ensures set { IfOk result (λ i. (verdict : Verdict) → with_verdict decided.now item verdict ≡ slice_set decided.now i (item, verdict)) }
     ensures within { IfErr result (λ i. i ≤ length decided.now) }
+    ensures none { OnErr result (verdict_on item decided.now ≡ None) }
     ensures inserted { IfErr result (λ i. (verdict : Verdict) → with_verdict decided.now item verdict ≡ insert decided.now i (item, verdict)) }
 {
     let sought = item_rank(item);
-    for (i, one) in decided.iter().enumerate() {
-        let rank = item_rank(one.0);
-        if rank == sought {
-            return Ok(i);
-        }
-        if sought < rank {
-            return Err(i);
-        }
+    let at = end_before(decided, sought);
+    match decided.get(at) {
+        Some(one) if item_rank(one.0) == sought => Ok(at),
+        _ => Err(at),
     }
-    Err(decided.len())
 }
 
 /// The verdicts of a curator on the items of a snapshot, at most one on each.
@@ -69,16 +79,14 @@ impl Decisions {
         }
     }
 
-    /// The verdict on an item. Cost: the decisions.
+    /// The verdict on an item. Cost: the logarithm of the number of decisions.
     pub fn verdict(&self, item: ItemId) -> Option<Verdict>
         ensures { result ≡ verdict_on item self.now }
     {
-        for (decided, verdict) in &self.decided {
-            if item_rank(*decided) == item_rank(item) {
-                return Some(*verdict);
-            }
+        match place_of(self.decided.as_slice(), item) {
+            Ok(i) => Some(self.decided[i].1),
+            Err(_) => None,
         }
-        None
     }
 
     /// How many items are decided.

@@ -1,9 +1,12 @@
 //! Which items name which.
-ghost use Rattle.std.specs.Prelude.{◌≡◌, ◌<◌, ◌∷◌, ◌++◌, ◌||◌, ℕ, [], false, length, map, slice_index_or, IfOk};
+ghost use Rattle.std.specs.Prelude.{◌≡◌, ◌==◌, ◌<◌, ◌∷◌, ◌++◌, ◌||◌, ℕ, [], false, length, map, slice_index_or, IfOk};
 ghost use Rattle.std.specs.Ordering.{nat_cmp};
 ghost use Rattle.std.specs.BTreeMap.{get};
+ghost use Rattle.std.specs.BTreeSet.{contains};
+ghost use Rattle.std.specs.List.{list_any};
 ghost use Rattle.layer_model.specs.Classes.{rank};
 ghost use Rattle.layer_model.specs.Coherent.{trigger_id};
+ghost use Rattle.curator_decisions.specs.Decisions.{item_rank};
 ghost use Rattle.curator_decisions.specs.Naming.{dependent_at, entry_as, has_place, ids_named, is_needed_at, lacked_at, missing_at, named_at, places_of_ids};
 ghost use Rattle.curator_decisions.specs.Placing.{AreNames, called};
 
@@ -13,7 +16,7 @@ use content_keys::{Placed, PlacedLayer};
 use layer_model::{Event, Layer, Relation, Snapshot, rank};
 use mark_base::{AnnId, Kind, Memory};
 use std::alloc::Global;
-use std::collections::BTreeMap;
+use std::collections::{BTreeMap, BTreeSet};
 use unanimous_merge::{Entry, ItemId, Merged};
 
 /// The places of the annotations of a layer, by their ranks.
@@ -173,6 +176,17 @@ pub(crate) fn entry_as(entries: &[Entry], item: ItemId) -> Option<Entry>
         }
     }
     None
+}
+
+/// The places of items among all items.
+pub(crate) fn item_ranks(alloc: Global, entries: &[Entry]) -> Result<BTreeSet<u64>, Memory>
+    ensures { IfOk result (λ ranks. (rank : ℕ) → contains nat_cmp ranks rank ≡ list_any (λ entry. item_rank entry.item == rank) entries.now) }
+{
+    let mut ranks = BTreeSet::new(alloc);
+    for entry in entries {
+        ranks.insert(item_rank(entry.item))?;
+    }
+    Ok(ranks)
 }
 
 /// The lowest item that is named and not in.

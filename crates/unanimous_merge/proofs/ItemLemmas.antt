@@ -100,11 +100,8 @@ module _ (table : List ℕ) (distinct : AreDistinct table) where
           let bits : map (stands (v e.place)) (map contents (readings snapshot)) ≡ having e.place standing = ap (map (stands (v e.place))) contents_same ∙ having_is e.place h rows all_placed ∙ sym (has e.place) in
           λ i. record { id = e.item; holders = number_of_bits (bits i) }
 
-      pub items_found : (entries : List Entry) → entries ≡ entries_from 0 (map marks_of rows) → (found : List Entry) → found ≡ firsts_at entries → map (item_at standing) found ≡ items snapshot
-      items_found entries is found firsts_is =
-          let all : All IsEntry (entries_from 0 (map marks_of rows)) = entries_within 0 rows all_placed in
-          let es : List Entry = entries_from 0 (map marks_of rows) in
-          let leading : firsts (held_from 0 (map contents (readings snapshot))) ≡ map (held_at table) (firsts_at es) = ap firsts (ap (held_from 0) contents_same ∙ held_is 0 rows) ∙ firsts_are es all in
-          ap (map (item_at standing)) (firsts_is ∙ ap firsts_at is)
-          ∙ sym (ap (map (item_of (readings snapshot))) leading ∙ map_map (item_of (readings snapshot)) (held_at table) (firsts_at es)
-          ∙ map_same IsEntry (λ e. item_of (readings snapshot) (held_at table e)) (item_at standing) item_is (firsts_at es) (within_firsts es all))
+      -- the items of the annotations that give them their names
+      pub items_found : (found : List Entry) → All IsEntry found → map (held_at table) found ≡ leaders (readings snapshot) → map (item_at standing) found ≡ items snapshot
+      items_found found all lead =
+          sym (ap (map (item_of (readings snapshot))) (sym lead) ∙ map_map (item_of (readings snapshot)) (held_at table) found
+          ∙ map_same IsEntry (λ e. item_of (readings snapshot) (held_at table e)) (item_at standing) item_is found all)

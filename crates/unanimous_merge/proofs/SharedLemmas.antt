@@ -129,10 +129,9 @@ module _ (table : List ℕ) (distinct : AreDistinct table) (snapshot : List (Lis
         each_is class_contents sets (readings snapshot) rows sets_same (list_any (λ one. one == v q)) (has_class q) IsRow (class_is q h) all_classes_placed
         ∙ ap (list_all (λ (b : Bool). b)) (sym (has q))
 
--- the first layer, and what of it all holders have
-pub record Shares (table : List ℕ) (snapshot : List (List ℕ × Annotations)) (row : PlacedLayer) (layer : Annotations) (marks classes : List (List Bool)) : Type 0 where
+-- the first layer, and the classes of it that all holders have
+pub record Shares (table : List ℕ) (snapshot : List (List ℕ × Annotations)) (row : PlacedLayer) (layer : Annotations) (classes : List (List Bool)) : Type 0 where
   pub long : length row.classes.items ≡ length layer.classes
-  pub ids : map (λ (p : Placed). p.id) (filter (λ p. each_has marks p.place) row.marks.items) ≡ unanimous_ids (readings snapshot)
   pub sets : classes_at (each_has classes) layer.classes row.classes.items ≡ unanimous_classes (readings snapshot)
 
 length_map : {X Y : Type 0} (f : X → Y) (xs : List X) → length (map f xs) ≡ length xs
@@ -140,15 +139,13 @@ length_map f [] = refl
 length_map f (x ∷ xs) = ap suc (length_map f xs)
 
 pub shares : (table : List ℕ) → AreDistinct table → (snapshot : List (List ℕ × Annotations)) (rows : List PlacedLayer) → AreRows table rows snapshot → (layer : Annotations) → Some layer ≡ option_map (λ (r : List ℕ × Annotations). r.1) (slice_get snapshot 0)
-    → (row : PlacedLayer) → row ≡ get_or rows 0 row → (marks classes : List (List Bool)) → ((place : ℕ) → having place marks ≡ map (has_mark place) rows) → ((place : ℕ) → having place classes ≡ map (has_class place) rows) → Shares table snapshot row layer marks classes
-shares table distinct [] rows are layer e row at marks classes has had = cc
-shares table distinct (r ∷ rs) [] are layer e row at marks classes has had = let none = are.marks in cc
-shares table distinct (r ∷ rs) (first ∷ others) are layer e row at marks classes has had =
-    subst (λ x. Shares table (r ∷ rs) x layer marks classes) (sym at)
-    (subst (λ l. Shares table (r ∷ rs) first l marks classes) (sym is) record {
+    → (row : PlacedLayer) → row ≡ get_or rows 0 row → (classes : List (List Bool)) → ((place : ℕ) → having place classes ≡ map (has_class place) rows) → Shares table snapshot row layer classes
+shares table distinct [] rows are layer e row at classes had = cc
+shares table distinct (r ∷ rs) [] are layer e row at classes had = let none = are.marks in cc
+shares table distinct (r ∷ rs) (first ∷ others) are layer e row at classes had =
+    subst (λ x. Shares table (r ∷ rs) x layer classes) (sym at)
+    (subst (λ l. Shares table (r ∷ rs) first l classes) (sym is) record {
       long = sym (length_map (λ k. get_or table k 0) first.classes.items) ∙ ap length sets ∙ length_map (class_content (content_of r.1)) r.1.classes;
-      ids = ids_are (λ k. get_or table k 0) (content_of r.1) (in_each (readings (r ∷ rs))) (each_has marks) (length table) (marks_test table distinct (r ∷ rs) (first ∷ others) are marks has) first.marks.items (ids_of r.1) contents
-          (all_head (λ (x : PlacedLayer). All (λ (p : Placed). p.place < length table) x.marks.items) first others (all_placed table distinct (r ∷ rs) (first ∷ others) are));
       sets = classes_are (λ k. get_or table k 0) (class_content (content_of r.1)) (class_in_each (readings (r ∷ rs))) (each_has classes) (length table) (classes_test table distinct (r ∷ rs) (first ∷ others) are classes had) first.classes.items r.1.classes sets
           (all_head (λ (x : PlacedLayer). All (λ place. place < length table) x.classes.items) first others (all_classes_placed table distinct (r ∷ rs) (first ∷ others) are));
     })
@@ -156,8 +153,18 @@ shares table distinct (r ∷ rs) (first ∷ others) are layer e row at marks cla
     is : layer ≡ r.1
     is = same_Some _ _ e
 
-    contents : contents_at table first.marks.items ≡ contents_of r.1
-    contents = let whole = are.marks in cc
-
     sets : map (λ k. get_or table k 0) first.classes.items ≡ class_contents_of r.1
     sets = let whole = are.classes in cc
+
+-- what all holders have of the first layer
+pub shared : (table : List ℕ) → AreDistinct table → (snapshot : List (List ℕ × Annotations)) (rows : List PlacedLayer) → AreRows table rows snapshot → 0 < length snapshot
+    → (row : PlacedLayer) → row ≡ get_or rows 0 row → (marks : List (List Bool)) → ((place : ℕ) → having place marks ≡ map (has_mark place) rows) → map (λ (p : Placed). p.id) (filter (λ p. each_has marks p.place) row.marks.items) ≡ unanimous_ids (readings snapshot)
+shared table distinct [] rows are some row at marks has = absurd (omega arith)
+shared table distinct (r ∷ rs) [] are some row at marks has = let none = are.marks in cc
+shared table distinct (r ∷ rs) (first ∷ others) are some row at marks has =
+    subst (λ x. map (λ (p : Placed). p.id) (filter (λ p. each_has marks p.place) x.marks.items) ≡ unanimous_ids (readings (r ∷ rs))) (sym at)
+    (ids_are (λ k. get_or table k 0) (content_of r.1) (in_each (readings (r ∷ rs))) (each_has marks) (length table) (marks_test table distinct (r ∷ rs) (first ∷ others) are marks has) first.marks.items (ids_of r.1) contents
+    (all_head (λ (x : PlacedLayer). All (λ (p : Placed). p.place < length table) x.marks.items) first others (all_placed table distinct (r ∷ rs) (first ∷ others) are)))
+  where
+    contents : contents_at table first.marks.items ≡ contents_of r.1
+    contents = let whole = are.marks in cc

@@ -21,6 +21,5 @@ pub use crate::entry::Entry;
 pub use crate::item::{Item, ItemId};
 pub use crate::item_list::items;
 pub use crate::merged::Merged;
-pub use crate::picks::Picks;
-pub use crate::shared::unanimous;
+pub use crate::picks::{Picks, unanimous};
 pub use crate::worked_rows::examples_of_items;

@@ -5,10 +5,9 @@ ghost use Rattle.unanimous_merge.specs.Merges.{IsMerged};
 ghost use Rattle.unanimous_merge.specs.Rows.{AreCoherent, each_has, having};
 
 use crate::entry::{Entry, entries_of, first_entries};
-use crate::item_list::standing_marks;
 use crate::rows::{layers_keep, placed_rows};
-use crate::shared::{shared_classes, standing_classes};
-use crate::standing::in_each;
+use crate::shared::shared_classes;
+use crate::standing::{in_each, standing_classes, standing_marks};
 use content_keys::{ContentTable, Placed, PlacedLayer};
 use layer_model::{Class, Snapshot};
 use mark_base::Memory;

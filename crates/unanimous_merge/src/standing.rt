@@ -4,6 +4,7 @@ ghost use Rattle.std.specs.List.{list_all, list_any};
 ghost use Rattle.unanimous_merge.specs.Items.{number_of_bits};
 ghost use Rattle.unanimous_merge.specs.Rows.{having};
 
+use content_keys::{Placed, PlacedLayer};
 use mark_base::Memory;
 use std::alloc::Global;
 
@@ -21,6 +22,52 @@ pub(crate) fn marked_places(
         has[*place as usize] = true;
     }
     Ok(has)
+}
+
+/// The places of annotations.
+fn places_of(alloc: Global, placed: &[Placed]) -> Result<Vec<u32>, Memory>
+    ensures { IfOk result (λ places. places.items ≡ map (λ p. p.place) placed.now) }
+{
+    let mut places = Vec::new(alloc);
+    for one in placed {
+        places.push(one.place)?;
+    }
+    Ok(places)
+}
+
+/// For each layer the places of its annotations.
+pub(crate) fn standing_marks(
+    alloc: Global,
+    rows: &[PlacedLayer],
+    count: usize,
+) -> Result<Vec<Vec<bool>>, Memory>
+    requires { All (λ row. All (λ p. p.place < count) row.marks.items) rows.now }
+    ensures { IfOk result (λ standing. (place : ℕ) → having place (map (λ row. row.items) standing.items) ≡ map (λ row. list_any (λ p. p.place == place) row.marks.items) rows.now) }
+{
+    let mut standing = Vec::new(alloc);
+    for row in rows {
+        let places = places_of(alloc, row.marks.as_slice())?;
+        let has = marked_places(alloc, places.as_slice(), count)?;
+        standing.push(has)?;
+    }
+    Ok(standing)
+}
+
+/// For each layer the places of its classes.
+pub(crate) fn standing_classes(
+    alloc: Global,
+    rows: &[PlacedLayer],
+    count: usize,
+) -> Result<Vec<Vec<bool>>, Memory>
+    requires { All (λ row. All (λ place. place < count) row.classes.items) rows.now }
+    ensures { IfOk result (λ standing. (place : ℕ) → having place (map (λ row. row.items) standing.items) ≡ map (λ row. list_any (λ one. one == place) row.classes.items) rows.now) }
+{
+    let mut standing = Vec::new(alloc);
+    for row in rows {
+        let has = marked_places(alloc, row.classes.as_slice(), count)?;
+        standing.push(has)?;
+    }
+    Ok(standing)
 }
 
 /// Whether a layer has a place.

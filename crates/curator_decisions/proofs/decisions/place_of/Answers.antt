@@ -1,50 +1,64 @@
-use Rattle.std.proofs.Common.{◌≡◌, ◌<◌, ◌≤◌, length, get_or, ◌∙◌, sym, arith, below_more}
-use Rattle.curator_decisions.specs.Decisions.{item_rank}
-use Rattle.curator_decisions.proofs.DecidedLemmas.{insert_at, rank_there, set_at}
+use Rattle.std.proofs.Common.{◌≡◌, ◌<◌, ◌≤◌, length, get_or, ◌∙◌, sym, ap, subst, arith, None, Option, IsSome, Bor}
+use Rattle.unanimous_merge.specs.declared.item.ItemId.{ItemId}
+use Rattle.curator_decisions.specs.declared.verdict.Verdict.{Verdict}
+use Rattle.curator_decisions.specs.Decisions.{Decided, item_rank}
+use Rattle.curator_decisions.specs.Placing.{IsEndBefore}
+use Rattle.curator_decisions.proofs.DecidedLemmas.{insert_at, set_at}
+use Rattle.curator_decisions.proofs.SearchLemmas.{above_at, end_is_before, verdict_at, verdict_none}
 use Rattle.curator_decisions.proofs.decisions.place_of.Goals as goal
 
-pub loop-i-preserved : goal.loop-i-preserved
-loop-i-preserved c =
-    let xs = c.args.decided.now in
-    let i = c.loop-i.i in
-    below_more _ _ c.loop-i.invariant (λ d.
-    let here : item_rank (get_or xs i d).0 ≡ c.item_rank-rank.result = rank_there xs i c.index-decided-i.result c.loop-i-test.true c.index-decided-i.is d ∙ sym c.item_rank-rank.ensures in
-    let least : c.item_rank-rank.result < c.item_rank-sought.result = omega arith in
-    omega (arith, here, least, c.item_rank-sought.ensures))
+nothing : (o : Option (Bor (ItemId × Verdict))) → o ≡ None → IsSome o → ⊥
+nothing o e h = let none : IsSome {T = Bor (ItemId × Verdict)} None = subst IsSome e h in cc
 
-pub returns-then-rank-sought : goal.returns-then-rank-sought
-returns-then-rank-sought c =
-    let xs = c.args.decided.now in
-    let i = c.loop-i.i in
+pub returns-in-Some : goal.returns-in-Some
+returns-in-Some c =
+    let xs : Decided = c.args.decided.now in
+    let item = c.args.item in
+    let at = c.end_before-at.result in
+    let end : IsEndBefore xs (item_rank item) at = subst (λ n. IsEndBefore xs n at) c.item_rank-sought.ensures c.end_before-at.ensures.end in
+    let long : at < length xs = c.in-Some.ensures.lookup.3.0 in
+    let here : (d : ItemId × Verdict) → item_rank (get_or xs at d).0 ≡ item_rank item =
+    λ d. ap (λ (one : ItemId × Verdict). item_rank one.0) (sym (c.in-Some.ensures.lookup.3.1 d)) ∙ sym c.item_rank.ensures ∙ c.if-item_rank-sought.true ∙ c.item_rank-sought.ensures in
     record {
-      here = c.loop-i-test.true;
-      set = λ v. set_at xs i c.args.item v c.loop-i.invariant c.loop-i-test.true (λ d. rank_there xs i c.index-decided-i.result c.loop-i-test.true c.index-decided-i.is d ∙ sym c.item_rank-rank.ensures ∙ c.if-rank-sought.true ∙ c.item_rank-sought.ensures);
+      here = long;
+      stands = λ d. verdict_at xs at item (end_is_before xs item at (omega arith) end) long d (here d);
+      set = λ v. set_at xs at item v (end_is_before xs item at (omega arith) end) long here;
       within = tt;
+      none = tt;
       inserted = tt;
     }
 
-pub returns-then-sought-rank : goal.returns-then-sought-rank
-returns-then-sought-rank c =
-    let xs = c.args.decided.now in
-    let i = c.loop-i.i in
+pub returns-in_default : goal.returns-in_default
+returns-in_default c =
+    let xs : Decided = c.args.decided.now in
+    let item = c.args.item in
+    let at = c.end_before-at.result in
+    let end : IsEndBefore xs (item_rank item) at = subst (λ n. IsEndBefore xs n at) c.item_rank-sought.ensures c.end_before-at.ensures.end in
+    let long : at < length xs = c.in-Some.ensures.lookup.3.0 in
+    let other : (d : ItemId × Verdict) → item_rank (get_or xs at d).0 ≡ item_rank item → ⊥ =
+    λ d e. c.if-item_rank-sought.false (c.item_rank.ensures ∙ ap (λ (one : ItemId × Verdict). item_rank one.0) (c.in-Some.ensures.lookup.3.1 d) ∙ e ∙ sym c.item_rank-sought.ensures) in
     record {
       here = tt;
+      stands = tt;
       set = tt;
       within = omega arith;
-      inserted = λ v. insert_at xs i c.args.item v c.loop-i.invariant (omega arith) (λ _ d.
-          let here : item_rank (get_or xs i d).0 ≡ c.item_rank-rank.result = rank_there xs i c.index-decided-i.result c.loop-i-test.true c.index-decided-i.is d ∙ sym c.item_rank-rank.ensures in
-          let least : c.item_rank-sought.result < c.item_rank-rank.result = c.if-sought-rank.true in
-          omega (arith, here, least, c.item_rank-sought.ensures));
+      none = verdict_none xs item at c.requires end (λ l. other);
+      inserted = λ v. insert_at xs at item v (end_is_before xs item at (omega arith) end) (omega arith) (λ l d. above_at xs item at end l d (other d));
     }
 
-pub returns : goal.returns
-returns c =
-    let xs = c.args.decided.now in
-    let n = length xs in
-    let all : n ≤ c.loop-i.i = c.loop-i-test.false in
+pub returns-in_default-2 : goal.returns-in_default-2
+returns-in_default-2 c =
+    let xs : Decided = c.args.decided.now in
+    let item = c.args.item in
+    let at = c.end_before-at.result in
+    let end : IsEndBefore xs (item_rank item) at = subst (λ n. IsEndBefore xs n at) c.item_rank-sought.ensures c.end_before-at.ensures.end in
+    let past : at < length xs → ⊥ = λ l. nothing c.get.result c.in_default.is (c.get.ensures.lookup.2 l) in
+    let most : at ≤ length xs = c.end_before-at.ensures.within in
     record {
       here = tt;
+      stands = tt;
       set = tt;
-      within = omega arith;
-      inserted = λ v. insert_at xs n c.args.item v (λ k l d. c.loop-i.invariant k (omega arith) d) (omega arith) (λ l d. absurd (omega arith));
+      within = most;
+      none = verdict_none xs item at c.requires end (λ l d e. past l);
+      inserted = λ v. insert_at xs at item v (end_is_before xs item at most end) most (λ l d. absurd (past l));
     }

@@ -9,10 +9,10 @@ use Rattle.curator_decisions.specs.Placing.{AreNames}
 use Rattle.curator_decisions.proofs.DecideLemmas.{of_none, of_some, told}
 use Rattle.curator_decisions.proofs.decisions.Decisions.of.Goals as goal
 
-pub returns-then-not-all_items-clause-refused : goal.returns-then-not-all_items-clause-refused
-returns-then-not-all_items-clause-refused c =
+pub returns-then-not-whole-clause-refused : goal.returns-then-not-whole-clause-refused
+returns-then-not-whole-clause-refused c =
     of_none c.args.conf.now (length c.args.doc.now) c.args.snapshot.now c.in_ok-merged.merged c.in_ok-merged.ensures c.args.pairs.now
-    (ap (λ es. list_all (λ one. is_some (entry_as es one.0)) c.args.pairs.now) (sym c.as_slice.ensures.value) ∙ sym c.all_items.ensures ∙ c.if-not-all_items.true)
+    (ap (λ es. list_all (λ one. is_some (entry_as es one.0)) c.args.pairs.now) (sym c.as_slice.ensures.value) ∙ sym c.in_ok-whole.ensures ∙ c.if-not-whole.true)
 
 pub returns-in-Some-clause-refused : goal.returns-in-Some-clause-refused
 returns-in-Some-clause-refused c =
@@ -23,7 +23,7 @@ returns-in-Some-clause-refused c =
     let all = c.in_ok-all.all.items in
     let P : List PlacedLayer → Type 0 = λ rows. AreNames {T = ℕ} (λ at. at) rows all in
     let places = subst P c.as_slice-2.ensures.value c.in_ok-all.ensures in
-    let items = ap (λ es. list_all (λ one. is_some (entry_as es one.0)) pairs) (sym c.as_slice.ensures.value) ∙ sym c.all_items.ensures ∙ c.if-not-all_items.false in
+    let items = ap (λ es. list_all (λ one. is_some (entry_as es one.0)) pairs) (sym c.as_slice.ensures.value) ∙ sym c.in_ok-whole.ensures ∙ c.if-not-whole.false in
     let flagged : (q : ℕ) → q < length merged.table → get_or c.in_ok-flags.flags.items q false ≡ is_needed_at (named_at snapshot all) marks pairs merged.firsts.items q =
     λ q h. c.in_ok-flags.ensures q h ∙ (λ i. is_needed_at (named_at snapshot (c.as_slice-3.ensures.value i)) marks (c.in_ok-decisions.ensures i) merged.firsts.items q) in
     of_some c.args.conf.now (length c.args.doc.now) snapshot merged c.in_ok-merged.ensures pairs items all places c.in_ok-flags.flags.items flagged (Some c.in-Some.other)
@@ -38,7 +38,7 @@ returns-in-Some-2-clause-refused c =
     let all = c.in_ok-all.all.items in
     let P : List PlacedLayer → Type 0 = λ rows. AreNames {T = ℕ} (λ at. at) rows all in
     let places = subst P c.as_slice-2.ensures.value c.in_ok-all.ensures in
-    let items = ap (λ es. list_all (λ one. is_some (entry_as es one.0)) pairs) (sym c.as_slice.ensures.value) ∙ sym c.all_items.ensures ∙ c.if-not-all_items.false in
+    let items = ap (λ es. list_all (λ one. is_some (entry_as es one.0)) pairs) (sym c.as_slice.ensures.value) ∙ sym c.in_ok-whole.ensures ∙ c.if-not-whole.false in
     let flagged : (q : ℕ) → q < length merged.table → get_or c.in_ok-flags.flags.items q false ≡ is_needed_at (named_at snapshot all) marks pairs merged.firsts.items q =
     λ q h. c.in_ok-flags.ensures q h ∙ (λ i. is_needed_at (named_at snapshot (c.as_slice-3.ensures.value i)) marks (c.in_ok-decisions.ensures i) merged.firsts.items q) in
     told (decision_fault c.args.conf.now (length c.args.doc.now) (readings snapshot) pairs) c.in-Some-2.fault
@@ -55,7 +55,7 @@ returns-clause-accepted c =
     let all = c.in_ok-all.all.items in
     let P : List PlacedLayer → Type 0 = λ rows. AreNames {T = ℕ} (λ at. at) rows all in
     let places = subst P c.as_slice-2.ensures.value c.in_ok-all.ensures in
-    let items = ap (λ es. list_all (λ one. is_some (entry_as es one.0)) pairs) (sym c.as_slice.ensures.value) ∙ sym c.all_items.ensures ∙ c.if-not-all_items.false in
+    let items = ap (λ es. list_all (λ one. is_some (entry_as es one.0)) pairs) (sym c.as_slice.ensures.value) ∙ sym c.in_ok-whole.ensures ∙ c.if-not-whole.false in
     let flagged : (q : ℕ) → q < length merged.table → get_or c.in_ok-flags.flags.items q false ≡ is_needed_at (named_at snapshot all) marks pairs merged.firsts.items q =
     λ q h. c.in_ok-flags.ensures q h ∙ (λ i. is_needed_at (named_at snapshot (c.as_slice-3.ensures.value i)) marks (c.in_ok-decisions.ensures i) merged.firsts.items q) in
     of_some c.args.conf.now (length c.args.doc.now) snapshot merged c.in_ok-merged.ensures pairs items all places c.in_ok-flags.flags.items flagged None

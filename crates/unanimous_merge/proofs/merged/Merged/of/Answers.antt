@@ -39,12 +39,10 @@ standing_classes-requires c =
 pub shared_classes-requires : goal.shared_classes-requires
 shared_classes-requires c =
     let rows = c.in_ok-rows.rows.items in
-    let marks : List (List Bool) = map (λ row. row.items) c.in_ok-marks.marks.items in
     let sets : List (List Bool) = map (λ row. row.items) c.in_ok-sets.sets.items in
-    let has : (place : ℕ) → having place marks ≡ map (has_mark place) rows = λ place. c.in_ok-marks.ensures place ∙ ap (map (has_mark place)) c.as_slice-3.ensures.value in
     let had : (place : ℕ) → having place sets ≡ map (has_class place) rows = λ place. c.in_ok-sets.ensures place ∙ ap (map (has_class place)) c.as_slice-4.ensures.value in
-    let s : Shares c.placed_rows.new.table c.args.snapshot.now c.index-first.result.now c.deref.result.now marks sets =
-    shares c.placed_rows.new.table c.differ.ensures c.args.snapshot.now rows c.in_ok-rows.ensures c.deref.result.now (ap Some c.deref.ensures ∙ c.in-Some.ensures) c.index-first.result.now c.index-first.ensures marks sets has had in
+    let s : Shares c.placed_rows.new.table c.args.snapshot.now c.index-first.result.now c.deref.result.now sets =
+    shares c.placed_rows.new.table c.differ.ensures c.args.snapshot.now rows c.in_ok-rows.ensures c.deref.result.now (ap Some c.deref.ensures ∙ c.in-Some.ensures) c.index-first.result.now c.index-first.ensures sets had in
     ap length c.as_slice-5.ensures.value ∙ s.long ∙ sym (ap length c.classes.ensures)
 
 pub returns : goal.returns
@@ -56,8 +54,8 @@ returns c =
     let sets : List (List Bool) = map (λ row. row.items) c.in_ok-sets.sets.items in
     let has : (place : ℕ) → having place marks ≡ map (has_mark place) rows = λ place. c.in_ok-marks.ensures place ∙ ap (map (has_mark place)) c.as_slice-3.ensures.value in
     let had : (place : ℕ) → having place sets ≡ map (has_class place) rows = λ place. c.in_ok-sets.ensures place ∙ ap (map (has_class place)) c.as_slice-4.ensures.value in
-    let s : Shares table snapshot c.index-first.result.now c.deref.result.now marks sets =
-    shares table c.differ.ensures snapshot rows c.in_ok-rows.ensures c.deref.result.now (ap Some c.deref.ensures ∙ c.in-Some.ensures) c.index-first.result.now c.index-first.ensures marks sets has had in
+    let s : Shares table snapshot c.index-first.result.now c.deref.result.now sets =
+    shares table c.differ.ensures snapshot rows c.in_ok-rows.ensures c.deref.result.now (ap Some c.deref.ensures ∙ c.in-Some.ensures) c.index-first.result.now c.index-first.ensures sets had in
     let entries : c.in_ok-entries.entries.items ≡ entries_from 0 (map marks_of rows) = c.in_ok-entries.ensures ∙ ap (λ rs. entries_from 0 (map marks_of rs)) c.as_slice.ensures.value in
     record {
       distinct = c.differ.ensures;
@@ -65,6 +63,7 @@ returns c =
       layers = c.layers_keep.ensures;
       firsts = firsts_lead table c.differ.ensures snapshot rows c.in_ok-rows.ensures c.in_ok-entries.entries.items entries c.in_ok-firsts.firsts.items (c.in_ok-firsts.ensures ∙ ap firsts_at c.as_slice-2.ensures.value);
       within = firsts_within table c.differ.ensures snapshot rows c.in_ok-rows.ensures c.in_ok-entries.entries.items entries c.in_ok-firsts.firsts.items (c.in_ok-firsts.ensures ∙ ap firsts_at c.as_slice-2.ensures.value);
+      marks = has;
       unanimous = λ place h. sym (marks_test table c.differ.ensures snapshot rows c.in_ok-rows.ensures marks has place h);
       classes = c.in_ok-classes.ensures ∙ (λ i. classes_at (each_has (map (λ row. row.items) (c.as_slice-6.ensures.value i))) (c.classes.ensures i) (c.as_slice-5.ensures.value i)) ∙ s.sets;
     }
