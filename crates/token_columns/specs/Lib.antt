@@ -1,0 +1,11 @@
+pub mod Columns
+pub mod ColumnFiles
+pub mod FaultNames
+pub mod Fits
+pub mod Labels
+pub mod LineShows
+pub mod ReadColumns
+pub mod ReadRuns
+pub mod WorkedColumns
+pub mod WriteFaults
+pub mod WriteRuns
