@@ -10,22 +10,22 @@ mod CommandScriptsRead
 mod CommandTyped
 mod CommandUtf8
 mod EmptyLemmas
-mod HistoryLemmas
-mod KeptLemmas
-mod LegalLemmas
-mod NameLemmas
+pub mod HistoryLemmas
+pub mod KeptLemmas
+pub mod LegalLemmas
+pub mod NameLemmas
 mod OneRowLemmas
-mod OpenLemmas
-mod OrderLemmas
+pub mod OpenLemmas
+pub mod OrderLemmas
 mod OwnLemmas
 mod PrivateLemmas
 mod RequestLemmas
 mod RosterLemmas
-mod RowLemmas
+pub mod RowLemmas
 mod ShownLemmas
-mod SizeLemmas
-mod SnapshotLemmas
+pub mod SizeLemmas
+pub mod SnapshotLemmas
 mod StayLemmas
-mod StepLemmas
-mod VerdictLemmas
+pub mod StepLemmas
+pub mod VerdictLemmas
 mod ViewLemmas

@@ -1,2 +1,0 @@
-mod PeopleLemmas
-mod StoredLemmas

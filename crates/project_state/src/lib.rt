@@ -1,0 +1,53 @@
+//! A project as a program keeps it.
+//!
+//! The main type is [`BookState`], a project at a place of its history, from which documents and rows are read by
+//! name in one look-up, and to which a change is done as an [`Act`]:
+//!
+//! ```text
+//! let row = state.row_in(&doc, &who); // what an annotator has done on a document
+//! state.make_room(&act)?; // all the memory that the act takes
+//! state.perform(act); // the act, which takes none
+//! ```
+//!
+//! What a project is, is defined in `project_machine`, whose items this crate passes on. `specs/Values.antt` leads
+//! from what is asked ([`Request`]), answered ([`Reply`]) and happens ([`Change`]) to the plain values that those
+//! definitions speak of. How a request is judged stands in `project_steps`.
+#![tactic(auto)]
+
+pub use project_machine::{
+    BookRefusal, DocLine, Policy, Roster, RosterFault, Scripts, accepted_scripts_can_be_written,
+    annotators_are_shown_their_own, annotators_change_their_own_rows, changes_tell_their_requests,
+    committed_layers_obey, examples_of_broken_layers, examples_of_command_bytes,
+    examples_of_command_reading, examples_of_histories, examples_of_snapshots, examples_of_steps,
+    histories_go_on, loads_are_read_again, openings_can_be_repeated, places_stand, read_scripts,
+    rosters_can_found, scripts_are_told_apart, scripts_without_loads, snapshots_stay,
+    states_can_be_restored, typed_scripts_are_read_again, views_can_be_curated, write_scripts,
+};
+
+mod act;
+mod acting;
+mod change;
+mod doc_list;
+mod document;
+mod finished_layers;
+mod lending;
+mod pair_list;
+mod people;
+mod reply;
+mod request;
+mod restoring;
+mod row;
+mod row_act;
+mod state;
+mod stored_snapshot;
+
+pub use crate::act::Act;
+pub use crate::change::Change;
+pub use crate::doc_list::DocList;
+pub use crate::document::StoredDocument;
+pub use crate::pair_list::PairList;
+pub use crate::reply::{Out, Reply, SnapshotView};
+pub use crate::request::Request;
+pub use crate::row::StoredRow;
+pub use crate::state::BookState;
+pub use crate::stored_snapshot::StoredSnapshot;
