@@ -1,0 +1,10 @@
+pub mod SizeLemmas
+pub mod PlaceLemmas
+pub mod WritableLemmas
+pub mod TellLemmas
+pub mod AgainLemmas
+pub mod RosterLemmas
+pub mod ItemLemmas
+pub mod ParkLemmas
+pub mod OrderLemmas
+pub mod FoundingLemmas

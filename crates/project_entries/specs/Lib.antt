@@ -1,0 +1,5 @@
+pub mod Writing
+pub mod Asking
+pub mod Reading
+pub mod Founding
+pub mod FoundingReading
