@@ -1,0 +1,3 @@
+mod ActTables
+mod SpareLemmas
+mod TablingLemmas
