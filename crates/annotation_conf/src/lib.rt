@@ -61,4 +61,5 @@ pub use crate::conf_reader::read_conf;
 pub use crate::overlap_line::Overlap;
 pub use crate::relation_type::{ArgumentLines, Arguments, RelationType};
 pub use crate::role::{Role, Roles};
+pub use crate::sound_laws::sound_configurations_are_read_back;
 pub use crate::worked_rows::{configurations_answer, faults_are_told, files_are_read};

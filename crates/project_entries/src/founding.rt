@@ -13,7 +13,7 @@ ghost use Rattle.project_machine.specs.Requests.{Founded};
 ghost use Rattle.project_entries.specs.Founding.{founded, IsFoundingOf, IsReadBack};
 ghost use Rattle.project_entries.specs.FoundingReading.{ReadsFields, ReadsFounding};
 
-use annotation_conf::{Conf, ConfFault, read_conf, write_conf};
+use annotation_conf::{Conf, ConfFault, read_conf, sound_configurations_are_read_back, write_conf};
 use entry_bytes::{Entry, Person, PersonList};
 use mark_base::{Memory, Text};
 use project_state::{Roster, RosterFault, rosters_can_found};
@@ -67,8 +67,8 @@ fn name_is_spelt(person: &Person)
     let _name = person.name.text();
 }
 
-/// Tells a proof that each name is spelt as one. It changes nothing.
-fn names_are_spelt(people: &[Person])
+/// Tells a proof that the name of each of some people is spelt as one. It changes nothing. Cost: their number.
+pub fn names_are_spelt(people: &[Person])
     ensures { AllByRecursion (λ (person : Person). IsSlug person.name) people.now }
 {
     for person in people {
@@ -188,9 +188,10 @@ fn read_founding(alloc: Global, entry: &Entry) -> Result<Option<Founding>, Memor
 pub fn founding_of(alloc: Global, entry: &Entry) -> Result<Option<Founding>, Memory>
     // What is told can be founded, and has this entry.
     ensures found { IfOk result (λ told. IfSome told (λ founding. IsFoundingOf entry.now (arc_value founding.conf) founding.level founding.roster)) }
-    // Each founding of this entry is told, where its configuration is one that is read from its canonical text.
-    ensures told { IfOk result (λ told. (conf : Configuration) (level : ℕ) (people : List Person) → IsFoundingOf entry.now conf level people → IsReadBack conf → option_map founded told ≡ Some (Founded conf level people)) }
+    // Each founding of this entry is told.
+    ensures told { IfOk result (λ told. (conf : Configuration) (level : ℕ) (people : List Person) → IsFoundingOf entry.now conf level people → option_map founded told ≡ Some (Founded conf level people)) }
 {
+    sound_configurations_are_read_back();
     let told = read_founding(alloc, entry)?;
     Ok(told)
 }

@@ -27,6 +27,6 @@ mod written;
 
 pub use crate::asking::{Asking, asking_of};
 pub use crate::change_entry::entry_for;
-pub use crate::founding::{Founding, founding_of};
+pub use crate::founding::{Founding, founding_of, names_are_spelt};
 pub use crate::laws::accepted_changes_can_be_entered;
 pub use crate::written::{Written, change_bytes, entry_written};
