@@ -1,5 +1,5 @@
 -- The lines of columns are read without a fault.
-use Rattle.std.proofs.Common.{◌≡◌, ℕ, ◌+◌, ◌-◌, ◌<◌, ◌≤◌, ◌==◌, not, true, false, cond, List, [], ◌∷◌, ◌++◌, map, Option, Some, None, Ok, Err, refl, sym, ◌∙◌, ap, subst, nat_lt, nat_le, codes, bytes_eq, is_none}
+use Rattle.std.proofs.Common.{slice_get, ◌≡◌, ℕ, ◌+◌, ◌-◌, ◌<◌, ◌≤◌, ◌==◌, not, true, false, cond, List, [], ◌∷◌, ◌++◌, map, Option, Some, None, Ok, Err, refl, sym, ◌∙◌, ap, subst, nat_lt, nat_le, codes, bytes_eq, is_none}
 use Rattle.std.specs.Prelude.{⊤}
 use Rattle.std.specs.Option.{option_map_or}
 use Rattle.std.specs.List.{AllByRecursion}
@@ -49,6 +49,10 @@ kind_is conf kind sound can =
       named = type_read_back conf sound kind.n row can.1;
       free = ap (λ o. option_map_or (λ (r : TypeRow). not r.usable) o false) can.1 ∙ ap not can.2;
     })
+
+-- the type of a row is that of the row's name
+pub own_name : (conf : Configuration) (kind : TypeId) (row : TypeRow) (name : List ℕ) → IsSound conf → slice_get conf.types kind.n ≡ Some row → row.name ≡ name → type_named conf.types name ≡ Some kind
+own_name conf kind row name sound is same = ap (type_named conf.types) (sym same) ∙ type_read_back conf sound kind.n row is
 
 pub label_plain : (conf : Configuration) → IsSound conf → (label_ : Label) → ((kind : TypeId) → label_ ≡ label.Begin kind → CanUse conf kind) → ((kind : TypeId) → label_ ≡ label.Inside kind → CanUse conf kind) → NonePass parts (label_word conf label_)
 label_plain conf sound label.Out b i = (refl, tt)

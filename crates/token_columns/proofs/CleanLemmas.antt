@@ -21,11 +21,11 @@ use Rattle.token_columns.specs.Fits.{Fits, is_aligned, only_spans, place_of, sha
 use Rattle.token_columns.specs.WriteFaults.{class_there, earlier, fragmented, is_misnumbered, misnumbered, other_there, out_fault, shared, span_id, unaligned}
 use Rattle.token_columns.proofs.OutLemmas.{each}
 
-none_from : {X : Type 0} (p : X → Bool) (xs : List X) → AllByRecursion (λ x. p x ≡ false) xs → find p xs ≡ None
+pub none_from : {X : Type 0} (p : X → Bool) (xs : List X) → AllByRecursion (λ x. p x ≡ false) xs → find p xs ≡ None
 none_from p [] all = refl
 none_from p (x ∷ xs) all = cond-false (p x) (Some x) (find p xs) all.0 ∙ none_from p xs all.1
 
-none_kept : {X : Type 0} (p : X → Bool) (xs : List X) → AllByRecursion (λ x. p x ≡ false) xs → filter p xs ≡ []
+pub none_kept : {X : Type 0} (p : X → Bool) (xs : List X) → AllByRecursion (λ x. p x ≡ false) xs → filter p xs ≡ []
 none_kept p [] all = refl
 none_kept p (x ∷ xs) all = cond-false (p x) (x ∷ filter p xs) (filter p xs) all.0 ∙ none_kept p xs all.1
 

@@ -20,3 +20,5 @@ pub mod BackLemmas
 pub mod WrittenLines
 pub mod CleanLemmas
 pub mod RowLemmas
+pub mod OrderLemmas
+pub mod PlaceLemmas

@@ -1,5 +1,5 @@
 -- Labels found by going over the spans once (private calls only).
-use Rattle.std.specs.Prelude.{ℕ, ◌&&◌, Bool, List, [], ◌∷◌, ◌++◌, codes, nat_lt, nat_le, Option, Some, None, if◌then◌else◌}
+use Rattle.std.specs.Prelude.{ℕ, ◌≤◌, ◌+◌, ◌==◌, ◌&&◌, Bool, true, ⊤, List, [], ◌∷◌, ◌++◌, codes, nat_lt, nat_le, Option, Some, None, if◌then◌else◌}
 use Rattle.std.specs.List.{list_any}
 use Rattle.mark_base.specs.declared.fragments.Frag.{Frag}
 use Rattle.annotation_conf.specs.Configurations.{Configuration}
@@ -31,3 +31,14 @@ meet a b = nat_lt a.start b.end && nat_lt b.start a.end
 -- a span has a character in common with one of a lower number
 abbrev pub meets_lower : List Placed → Placed → Bool
 meets_lower spans span = list_any (λ other. nat_lt other.number span.number && meet other.run span.run) spans
+
+-- places that rise, the first at this one or behind
+abbrev pub Rises : ℕ → List ℕ → Type 0
+Rises low [] = ⊤
+Rises low (place ∷ places) = (low ≤ place) × Rises place places
+
+-- spans that rise behind a place, none of them empty, and are numbered from this number on
+abbrev pub is_ordered : ℕ → ℕ → List Placed → Bool
+is_ordered low number [] = true
+is_ordered low number (span ∷ spans) =
+    (span.number == number) && nat_le low span.run.start && nat_lt span.run.start span.run.end && is_ordered span.run.end (number + 1) spans

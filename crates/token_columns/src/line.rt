@@ -1,5 +1,5 @@
 //! A line of a column file.
-ghost use Rattle.std.specs.Prelude.{◌≡◌, ◌≤◌, ◌<◌, ◌==◌, bytes_eq, chars, drop, length, map, slice_index, IfOk, IfErr, IfSome, Some, None};
+ghost use Rattle.std.specs.Prelude.{◌≡◌, ◌≤◌, ◌<◌, ◌==◌, bytes_eq, chars, drop, length, map, slice_index, IfOk, IfErr, IfSome, Some, None, true};
 ghost use Rattle.std.specs.List.{common_prefix_len, slice_split};
 ghost use Rattle.mark_base.specs.Names.{name_fault};
 ghost use Rattle.type_hierarchy.specs.TypeTrees.{type_named};
@@ -99,6 +99,35 @@ fn type_named(alloc: Global, conf: &Conf, name: &str) -> Result<Option<TypeId>, 
         Err(NameFault::Memory) => Err(Memory),
         Err(_) => Ok(None),
     }
+}
+
+/// Whether a type has a name.
+fn has_name(conf: &Conf, id: TypeId, name: &str) -> bool
+    ensures { result ≡ true → type_named conf.now.types name.now ≡ Some id }
+{
+    conf.reads_back();
+    match conf.types().row(id) {
+        Some(row) => row.name.text() == name,
+        None => false,
+    }
+}
+
+/// The type of a name, which is looked up only where it is not that of this span, if there is one.
+fn kind_named(
+    alloc: Global,
+    conf: &Conf,
+    last: Option<Run>,
+    name: &str,
+) -> Result<Option<TypeId>, Memory>
+    requires { name_fault name.now ≡ None }
+    ensures { IfOk result (λ id. id ≡ type_named conf.now.types name.now) }
+{
+    if let Some(run) = last {
+        if has_name(conf, run.kind, name) {
+            return Ok(Some(run.kind));
+        }
+    }
+    type_named(alloc, conf, name)
 }
 
 /// The characters of a text.
@@ -228,7 +257,7 @@ fn inside_label(
     requires { name_fault name.now ≡ None }
     ensures { IfOk result (λ answer. answer ≡ label_at conf.now before.now.last before.now.begun token LabelForm.Inside name.now) }
 {
-    match usable(conf, type_named(alloc, conf, name)?) {
+    match usable(conf, kind_named(alloc, conf, before.last, name)?) {
         Ok(kind) => Ok(inside_at(before.last, token, kind)),
         Err(what) => Ok(Judged::Fault(what)),
     }

@@ -116,7 +116,7 @@ fn read_text(alloc: Global, text: &str, doc: &Doc, conf: &Conf) -> Result<Layer,
 /// Reads columns, of at most 16,777,216 bytes: the layer that they show for the document. Blank lines, of spaces,
 /// TABs and carriage returns alone, are passed over, one carriage return before a line feed is dropped, and the last
 /// line feed may be absent. The fault is that of the first line that has one. Memory may run out at any time. Cost:
-/// the bytes, the text, and a look-up for each label that names a type.
+/// the bytes, the text, and a look-up for each label that begins a span or names another type than the span before it.
 #[tactic(auto, unfolding(crate::specs::ReadColumns::read_of))]
 pub fn read_columns(
     alloc: Global,

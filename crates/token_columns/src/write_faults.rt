@@ -1,14 +1,14 @@
 //! What is at fault with a layer that does not fit columns.
-ghost use Rattle.std.specs.Prelude.{◌≡◌, ◌+◌, ◌==◌, ◌&&◌, ◌<◌, ◌≤◌, ◌^◌, None, find, length, not, option_map, count_by, nat_lt, IfOk};
-ghost use Rattle.std.specs.List.{filter, fold, list_any};
+ghost use Rattle.std.specs.Prelude.{◌≡◌, ◌+◌, ◌==◌, ◌&&◌, ◌<◌, ◌^◌, find, length, map, not, option_map, IfOk};
+ghost use Rattle.std.specs.List.{list_any};
 ghost use Rattle.char_documents.specs.Tokens.{tokens_of};
 ghost use Rattle.layer_model.specs.Coherent.{is_span_letter};
 ghost use Rattle.layer_model.specs.LayerIds.{ids_of};
 ghost use Rattle.layer_core.specs.WellFormed.{IsWellFormed};
-ghost use Rattle.token_columns.specs.Fits.{is_aligned, place_of};
+ghost use Rattle.token_columns.specs.Fits.{place_of};
 ghost use Rattle.token_columns.specs.Labels.{spans_of};
 ghost use Rattle.token_columns.specs.WriteFaults.{class_there, earlier, fragmented, is_misnumbered, misnumbered, other_there, out_fault, span_id, unaligned};
-ghost use Rattle.token_columns.specs.WriteRuns.{meet, meets_lower};
+ghost use Rattle.token_columns.specs.WriteRuns.{Rises, is_ordered, meet, meets_lower};
 
 use crate::column_fault::ColumnOut;
 use crate::run::{Placed, Run};
@@ -16,7 +16,7 @@ use annotation_conf::Conf;
 use char_documents::Doc;
 use layer_model::{Layer, id_at, ids_of};
 use mark_base::{AnnId, Frag, Kind, Memory};
-use std::alloc::Global;
+use std::alloc::{AllocError, Global};
 
 /// The ID of a span.
 fn span_id(span: Placed) -> AnnId
@@ -81,38 +81,67 @@ fn fragmented(spans: &[Placed]) -> Option<ColumnOut>
     None
 }
 
-/// Whether a token starts at a place.
-fn starts_at(tokens: &[Frag], place: u32) -> bool
-    ensures { result ≡ list_any (λ token. token.start == place) tokens.now }
+/// Where tokens start.
+fn starts_of(alloc: Global, tokens: &[Frag]) -> Result<Vec<u32>, AllocError>
+    ensures { IfOk result (λ starts. starts.items ≡ map (λ token. token.start) tokens.now) }
 {
-    tokens.iter().any(|token| token.start == place)
+    tokens.iter().map(|token| token.start).collect(alloc)
 }
 
-/// Whether a token ends at a place.
-fn ends_at(tokens: &[Frag], place: u32) -> bool
-    ensures { result ≡ list_any (λ token. token.end == place) tokens.now }
+/// Where tokens end.
+fn ends_of(alloc: Global, tokens: &[Frag]) -> Result<Vec<u32>, AllocError>
+    ensures { IfOk result (λ ends. ends.items ≡ map (λ token. token.end) tokens.now) }
 {
-    tokens.iter().any(|token| token.end == place)
+    tokens.iter().map(|token| token.end).collect(alloc)
+}
+
+/// Whether a place is among places that rise. Cost: the logarithm of their number.
+fn is_among(places: &[u32], place: u32) -> bool
+    requires { Rises 0 places.now }
+    ensures { result ≡ list_any (λ other. other == place) places.now }
+{
+    places.binary_search(&place).is_ok()
 }
 
 /// Whether a span goes from the start of a token to the end of a token.
-fn is_aligned(tokens: &[Frag], run: Run) -> bool
-    ensures { result ≡ is_aligned tokens.now run }
+fn is_aligned(starts: &[u32], ends: &[u32], run: Run) -> bool
+    requires starts { Rises 0 starts.now }
+    requires ends { Rises 0 ends.now }
+    ensures { result ≡ (list_any (λ start. start == run.start) starts.now && list_any (λ end. end == run.end) ends.now) }
 {
-    starts_at(tokens, run.start) && ends_at(tokens, run.end)
+    is_among(starts, run.start) && is_among(ends, run.end)
 }
 
 /// The lowest span that does not go from a token's start to a token's end.
-fn unaligned(doc: &Doc, spans: &[Placed]) -> Option<ColumnOut>
-    ensures { result ≡ unaligned doc.now spans.now }
+fn unaligned(alloc: Global, doc: &Doc, spans: &[Placed]) -> Result<Option<ColumnOut>, Memory>
+    ensures { IfOk result (λ fault. fault ≡ unaligned doc.now spans.now) }
 {
     let tokens = doc.tokens();
+    let starts = starts_of(alloc, tokens)?;
+    let ends = ends_of(alloc, tokens)?;
     for span in spans {
-        if !is_aligned(tokens, span.run) {
-            return Some(ColumnOut::Unaligned(span_id(*span)));
+        if !is_aligned(&starts, &ends, span.run) {
+            return Ok(Some(ColumnOut::Unaligned(span_id(*span))));
         }
     }
-    None
+    Ok(None)
+}
+
+/// Whether spans rise, none of them empty, and are numbered from 1. Cost: their number.
+fn is_ordered(spans: &[Placed]) -> bool
+    ensures { result ≡ is_ordered 0 1 spans.now }
+{
+    let mut low = 0;
+    for (place, span) in spans.iter().enumerate() {
+        if span.number as usize != place + 1 || span.run.start < low {
+            return false;
+        }
+        if span.run.end <= span.run.start {
+            return false;
+        }
+        low = span.run.end;
+    }
+    true
 }
 
 /// Whether two spans have a character in common.
@@ -187,7 +216,8 @@ fn misnumbered(spans: &[Placed]) -> Option<ColumnOut>
 }
 
 /// The first fault of a layer that is well-formed for a text, where these are its spans. Cost: the annotations, the
-/// spans times the tokens, and for each span the other spans.
+/// tokens, and for each span the logarithm of their number; where the spans are not in their order, also for each
+/// span the other spans.
 pub(crate) fn out_fault(
     alloc: Global,
     layer: &Layer,
@@ -209,8 +239,12 @@ pub(crate) fn out_fault(
     if let Some(fault) = fragmented(spans) {
         return Ok(Some(fault));
     }
-    if let Some(fault) = unaligned(doc, spans) {
+    let missed = unaligned(alloc, doc, spans)?;
+    if let Some(fault) = missed {
         return Ok(Some(fault));
+    }
+    if is_ordered(spans) {
+        return Ok(None);
     }
     if let Some(fault) = met(spans) {
         return Ok(Some(fault));

@@ -38,8 +38,9 @@ fn column_bytes(alloc: Global, layer: &Layer, doc: &Doc, conf: &Conf) -> Result<
 
 /// Writes the columns of a layer: a line for each token of the document, with the token, a TAB, its label and a line
 /// feed. A layer that columns cannot show is refused before any byte is written, by the first of six faults. A fault
-/// of the sink leaves a front of the columns written, and so does want of memory. Cost: the text, the spans times the
-/// tokens, for each span the other spans, and the writes.
+/// of the sink leaves a front of the columns written, and so does want of memory. Cost: the text, for each span the
+/// logarithm of the tokens, and the writes; of spans that do not follow one another by their numbers, also for each
+/// the other spans.
 pub fn write_columns<K: Sink>(
     alloc: Global,
     layer: &Layer,
