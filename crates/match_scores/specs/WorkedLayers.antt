@@ -34,9 +34,11 @@ layer_with spans events = record {
 abbrev pub ann_spans : List (ℕ × Span)
 ann_spans = (1, span 0 0 3) ∷ (2, span 1 4 7) ∷ []
 
+-- the meeting E1 of T1
 abbrev pub ann_events : List (ℕ × Event)
 ann_events = (1, event 1 2 (arg 0 (t 1) ∷ [])) ∷ []
 
+-- the layer of the first annotator
 abbrev pub ann : Annotations
 ann = layer_with ann_spans ann_events
 
@@ -44,9 +46,11 @@ ann = layer_with ann_spans ann_events
 abbrev pub bob_spans : List (ℕ × Span)
 bob_spans = (1, span 1 4 7) ∷ (2, span 0 0 3) ∷ (3, span 2 15 19) ∷ []
 
+-- the same meeting
 abbrev pub bob_events : List (ℕ × Event)
 bob_events = (1, event 1 1 (arg 0 (t 2) ∷ [])) ∷ []
 
+-- the layer of the second annotator
 abbrev pub bob : Annotations
 bob = layer_with bob_spans bob_events
 

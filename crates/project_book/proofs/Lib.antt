@@ -1,0 +1,7 @@
+mod StepLemmas
+mod BookLemmas
+mod NumberLemmas
+mod AskLemmas
+mod FoundingLemmas
+mod VisitLemmas
+mod AcceptLemmas

@@ -1,0 +1,8 @@
+use Rattle.project_state.specs.Values.{answer_of, asked_of}
+use Rattle.project_book.proofs.VisitLemmas.{visited_alone}
+use Rattle.project_book.proofs.alone.AloneVisitor.ask.Goals as goal
+
+pub returns-clause-visited : goal.returns-clause-visited
+returns-clause-visited g c =
+    visited_alone g.K.Keeper.faults g.K.Keeper.faultless c.args.self.now.book.keeper c.ask-reply.new.self.keeper c.args.self.now.book.log c.ask-reply.new.self.log c.args.caller.now (asked_of c.args.request) (answer_of c.ask-reply.result) c.args.self.now.began c.args.self.now.room
+    c.keeps.ensures.legal c.keeps-2.ensures.legal c.keeps-2.ensures.room c.args.self.now.begins c.requires c.ask-reply.ensures.step c.ask-reply.ensures.keeper

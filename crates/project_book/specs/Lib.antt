@@ -1,0 +1,5 @@
+pub mod Keeping
+pub mod Codes
+pub mod Founding
+pub mod Answering
+pub mod Visits

@@ -1,0 +1,34 @@
+//! A project at work: each request is one step, kept before it is answered.
+//!
+//! The main type is [`Book`], a project over what keeps its entries:
+//!
+//! ```text
+//! let keeper = MemoryKeeper::new(alloc, Vec::new(alloc), Vec::new(alloc));
+//! let mut book = Book::found(alloc, keeper, conf, roster).map_err(|(_, fault)| fault)?;
+//! let reply = book.ask(&caller, Request::AddText { doc, text }, &mut steps);
+//! book.place(); // 2: the founding, and the text
+//! ```
+//!
+//! What a step is, is defined in `project_machine` (`Machine.antt`), and what a book answers and keeps in its
+//! `Asking.antt`. [`Visitor`] is what a connection sees of a project, and [`Alone`] the one visitor of a book of its
+//! own.
+#![tactic(auto)]
+
+mod alone;
+mod asking;
+mod book;
+mod found_fault;
+mod founding;
+mod keeping;
+mod laws;
+mod visitor;
+
+pub use crate::alone::Alone;
+pub use crate::book::Book;
+pub use crate::found_fault::FoundFault;
+pub use crate::laws::verdicts_are_accepted;
+pub use crate::visitor::Visitor;
+pub use project_state::{
+    BookRefusal, BookState, Change, DocLine, DocList, Out, PairList, Policy, Reply, Request,
+    Roster, RosterFault, SnapshotView,
+};
