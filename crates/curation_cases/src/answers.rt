@@ -53,7 +53,7 @@ fn answer(
 }
 
 /// Takes the decisions of lines, and writes each with what it is answered, if it is not taken.
-pub fn answers_text(
+pub(crate) fn answers_text(
     alloc: Global,
     ground: &Ground,
     snapshot: &Snapshot,
@@ -115,8 +115,8 @@ fn layer_text(
     Ok(String::from_str(alloc, text)?)
 }
 
-/// The file of the curated layer, which the list of the decisions makes too.
-pub fn curated_text(
+/// The file of the curated layer that a copy of the decisions makes, and the list of them too.
+pub(crate) fn curated_text(
     alloc: Global,
     ground: &Ground,
     snapshot: &Snapshot,
@@ -130,7 +130,10 @@ pub fn curated_text(
     else {
         return Err(Error::msg("the list of the decisions is refused"));
     };
-    let one = layer_text(alloc, ground, snapshot, decisions)?;
+    let Ok(copy) = decisions.copy() else {
+        return Err(Error::msg("memory is wanting"));
+    };
+    let one = layer_text(alloc, ground, snapshot, &copy)?;
     let other = layer_text(alloc, ground, snapshot, &again)?;
     if one.as_str() != other.as_str() {
         return Err(Error::msg("the list of the decisions makes another layer"));

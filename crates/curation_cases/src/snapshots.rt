@@ -27,7 +27,7 @@ pub struct Ground {
 }
 
 /// The first line of a section or a case, and the lines below it.
-pub fn head_of(section: &str) -> (&str, &str) {
+pub(crate) fn head_of(section: &str) -> (&str, &str) {
     match section.split_once('\n') {
         Some(parts) => parts,
         None => (section, ""),
@@ -47,7 +47,7 @@ fn lines_of<'t>(text: &'t str, name: &str) -> &'t str {
 
 impl Ground {
     /// The ground that the head of a file tells.
-    pub fn of(alloc: Global, head: &str) -> Result<Ground> {
+    pub(crate) fn of(alloc: Global, head: &str) -> Result<Ground> {
         let conf = lines_of(head, "conf").as_bytes();
         if conf.len() > 4_194_304 {
             return Err(Error::msg("the configuration is too long"));
@@ -111,7 +111,7 @@ fn ascend(rows: &[(Slug, Arc<Layer>)]) -> bool
 }
 
 /// The snapshot of a case.
-pub fn snapshot_of(alloc: Global, ground: &Ground, case: &str) -> Result<Snapshot>
+pub(crate) fn snapshot_of(alloc: Global, ground: &Ground, case: &str) -> Result<Snapshot>
     ensures { IfOk result (λ snapshot. AreCoherent snapshot) }
 {
     let rows = rows_of(alloc, ground, case)?;

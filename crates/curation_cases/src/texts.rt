@@ -16,7 +16,7 @@ fn holder_at(snapshot: &Snapshot, place: u8) -> &str {
 }
 
 /// The item of a name, `ann/T1`. A name that no holder has stands for a holder behind all.
-pub fn item_of(snapshot: &Snapshot, name: &str) -> Result<ItemId> {
+pub(crate) fn item_of(snapshot: &Snapshot, name: &str) -> Result<ItemId> {
     let Some((holder, id)) = name.split_once('/') else {
         return Err(Error::msg("an item has a holder and an ID"));
     };
@@ -32,7 +32,7 @@ pub fn item_of(snapshot: &Snapshot, name: &str) -> Result<ItemId> {
 }
 
 /// The name of an item.
-pub fn item_text(alloc: Global, snapshot: &Snapshot, item: ItemId) -> Result<String> {
+pub(crate) fn item_text(alloc: Global, snapshot: &Snapshot, item: ItemId) -> Result<String> {
     let holder = holder_at(snapshot, item.holder);
     let letter = item.id.kind.as_str();
     let number = item.id.number;
@@ -40,7 +40,7 @@ pub fn item_text(alloc: Global, snapshot: &Snapshot, item: ItemId) -> Result<Str
 }
 
 /// The items of a snapshot, a line each: the name of the item and all its holders.
-pub fn items_text(alloc: Global, snapshot: &Snapshot) -> Result<String>
+pub(crate) fn items_text(alloc: Global, snapshot: &Snapshot) -> Result<String>
     requires { AreCoherent snapshot.now }
 {
     let Ok(all) = items(alloc, snapshot) else {
@@ -72,7 +72,7 @@ fn push_ids(alloc: Global, text: &mut String, ids: &[AnnId]) -> Result<()> {
 }
 
 /// What is unanimous: the IDs behind `=`, and below them the members of each class behind `*`.
-pub fn unanimous_text(alloc: Global, snapshot: &Snapshot) -> Result<String>
+pub(crate) fn unanimous_text(alloc: Global, snapshot: &Snapshot) -> Result<String>
     requires { AreCoherent snapshot.now }
 {
     let Ok(picks) = unanimous(alloc, snapshot) else {
