@@ -179,7 +179,8 @@ impl<K: Keeper> Book<K> {
 
     /// Founds a project with a configuration, its people, and the level of the tree of types at which types are
     /// compared: 0 to 254, or 255 for none. The founding is kept first. A refusal gives the keeper back with the
-    /// entries that it had. Cost: the bytes of the entry, and the counts of two labels for each two annotators.
+    /// entries that it had. Cost, not measured: the text of the configuration twice, the bytes of the entry, and the counts
+    /// of two labels for each two annotators.
     pub fn found_at(
         alloc: Global,
         keeper: K,
