@@ -1,19 +1,14 @@
 -- The verdicts of the state behind a history are accepted.
-use Rattle.std.proofs.Common.{◌≡◌, ℕ, ◌+◌, ◌-◌, ◌<◌, ◌≤◌, Bool, true, false, List, [], ◌∷◌, ◌++◌, length, map, set, get_or, bytes_eq, Option, Some, None, option_map, refl, sym, ◌∙◌, ap, subst, arith, inl, inr, length-append}
+use Rattle.std.proofs.Common.{◌≡◌, ℕ, ◌+◌, ◌-◌, ◌<◌, ◌≤◌, true, false, List, [], ◌∷◌, ◌++◌, length, map, set, get_or, bytes_eq, Option, Some, None, option_map, refl, sym, ◌∙◌, ap, subst, arith, inl, inr, length-append}
 use Rattle.std.specs.List.{All}
 use Rattle.std.specs.Option.{option_or}
-use Rattle.std.proofs.lemmas.List.{set_past, get_or_append_left, length-map, get_or-map}
+use Rattle.std.proofs.lemmas.List.{set_past, get_or_append_left, get_or-map}
 use Rattle.std.proofs.lemmas.List.Elements.{All-push, All-set}
 use Rattle.std.proofs.lemmas.Bool.{cases_lt}
 use Rattle.annotation_conf.specs.Configurations.{Configuration}
-use Rattle.layer_model.specs.Annotations.{Annotations}
-use Rattle.layer_model.specs.Layers.{IsLayer}
-use Rattle.layer_core.specs.WellFormed.{Obeys}
 use Rattle.unanimous_merge.specs.Readings.{readings}
 use Rattle.unanimous_merge.specs.declared.item.ItemId.{ItemId}
-use Rattle.curator_decisions.specs.declared.verdict.Verdict.{Verdict}
 use Rattle.curator_decisions.specs.declared.decision_fault.DecisionFault.{DecisionFault}
-use Rattle.curator_decisions.specs.Decisions.{with_verdict, without_verdict}
 use Rattle.curator_decisions.specs.DecisionFaults.{decide_fault, decision_fault, undecide_fault}
 use Rattle.curator_decisions.specs.DecidedLaws.{AcceptedWithVerdict, AcceptedWithoutVerdict}
 use Rattle.curator_decisions.specs.Undecided.{UndecidedLayersAreAccepted}
@@ -21,10 +16,9 @@ use Rattle.project_machine.specs.declared.book_refusal.BookRefusal.{BookRefusal}
 use Rattle.project_machine.specs.declared.book_refusal.BookRefusal.TheVariants as no
 use Rattle.project_machine.specs.ProjectState.{Row, Document, Snapshot, ProjectState, document, no_document, no_snapshot, number_of, finished_rows, snapshot, text_of, item_in}
 use Rattle.project_machine.specs.Requests.{Asked, ReadConf, ListDocs, ReadText, AddText, Checkout, TakeOver, Commit, Park, Finish, ReadLayer, Reopen, Ignore, Readmit, Snap, TakeSnapshot, Decide, Undecide, ReadPairs, ReadAlpha, Happened, TextAdded, CheckedOut, TakenOver, LayerCommitted, LayerParked, LayerFinished, LayerReopened, LayerIgnored, LayerReadmitted, SnapshotTaken, ItemDecided, ItemUndecided, AllFreed}
-use Rattle.project_machine.specs.Typed.{IsAsked}
-use Rattle.project_machine.specs.Machine.{decidable, holds, refusal, step, taken, undecidable}
+use Rattle.project_machine.specs.Machine.{decidable, holds, step, taken, undecidable}
 use Rattle.project_machine.specs.History.{after, effect, freed, new_snapshot, on_row, on_snapshot, place_behind, under_hold, with_commit, with_decision, with_draft, with_finished, with_ignored, without_decision}
-use Rattle.project_machine.specs.Legal.{AreAccepted, IsAccepted, IsKept, IsLegal, IsSnapshotKept, LayerObeys, legal_founding, legal_restored, legal_step, legal_freeing}
+use Rattle.project_machine.specs.Legal.{AreAccepted, IsAccepted, IsKept, IsLegal, IsSnapshotKept, legal_founding, legal_restored, legal_step, legal_freeing}
 use Rattle.project_machine.proofs.HistoryLemmas.{IsGranted, after_more, granted, step_next}
 use Rattle.project_machine.proofs.RowLemmas.{Flawless, or_first, or_second}
 use Rattle.project_machine.proofs.KeptLemmas.{any_within, same_text, tests_free}

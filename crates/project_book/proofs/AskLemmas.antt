@@ -1,9 +1,8 @@
 -- What a request makes of a book, by each way out of it.
-use Rattle.std.proofs.Common.{◌≡◌, ◌≢◌, ◌⊎◌, ℕ, ◌+◌, ◌<◌, ◌≤◌, true, false, List, [], ◌∷◌, ◌++◌, length, Option, Some, None, IfSome, IsSome, is_some, option_map, refl, sym, ◌∙◌, ap, subst, arith, inl, inr, length-append}
-use Rattle.std.specs.Prelude.{Result, Ok, Err, IsErrOf}
+use Rattle.std.proofs.Common.{◌≡◌, ◌⊎◌, ℕ, ◌+◌, true, false, List, [], ◌∷◌, ◌++◌, length, Option, Some, None, IfSome, IsSome, is_some, option_map, refl, sym, ◌∙◌, ap, subst, arith, inl, inr, length-append}
+use Rattle.std.specs.Prelude.{Ok, Err, IsErrOf}
 use Rattle.std.specs.Option.{option_to_list}
 use Rattle.std.proofs.lemmas.List.{append-nil}
-use Rattle.mark_base.specs.Streams.{Rose, TellsFault}
 use Rattle.project_journal.specs.declared.keeper.KeeperFault.{KeeperFault}
 use Rattle.project_journal.specs.declared.keeper.KeeperFault.TheVariants as keeper
 use Rattle.project_journal.specs.Keeper.{IsKeptOrDoubt, IsKeptOrOneMore}
@@ -12,8 +11,9 @@ use Rattle.project_machine.specs.declared.book_refusal.BookRefusal.TheVariants a
 use Rattle.project_machine.specs.Requests.{Asked, Answered, Refused, Happened}
 use Rattle.project_machine.specs.Machine.{step}
 use Rattle.project_machine.specs.History.{after, encoded}
-use Rattle.project_machine.specs.Legal.{HasRoom}
-use Rattle.project_machine.specs.Asking.{IsDoubted, IsKeptBy, IsLeftByAsk, IsLeftWith, IsStep, StaysOrGoes, steps, wants_memory, is_not_kept, entry_behind, own_entry, step_at, stepped_on}
+use Rattle.project_machine.specs.Legal.{HasRoom, IsLegal, legal_step}
+use Rattle.project_machine.specs.Typed.{IsAsked}
+use Rattle.project_machine.specs.Asking.{IsDoubted, IsKeptBy, IsLeftByAsk, IsLeftWith, StaysOrGoes, steps, wants_memory, is_not_kept, entry_behind, own_entry, stepped_on}
 use Rattle.label_tracks.specs.Levels.{Grouping}
 use Rattle.kappa_alpha.specs.Standing.{Standing}
 use Rattle.project_machine.specs.ProjectState.{ProjectState}
@@ -21,8 +21,9 @@ use Rattle.project_state.specs.Values.{answer_of}
 use Rattle.project_steps.specs.declared.judging.Judged.{Judged}
 use Rattle.project_steps.specs.declared.judging.Kept.{Kept}
 use Rattle.project_steps.specs.Judging.{IsJudged, IsKeptChange, kept_happens}
-use Rattle.project_book.specs.Keeping.{BookValue, GoesAlong, Stands, TellsKeeper}
+use Rattle.project_book.specs.Keeping.{BookValue, Follows, GoesAlong, Stands, TellsKeeper}
 use Rattle.project_book.specs.Answering.{IsAnswered, answer_behind}
+use Rattle.project_book.specs.Replaying.{IsMadeBy}
 use Rattle.project_book.proofs.StepLemmas.{never_keeper}
 use Rattle.project_book.proofs.BookLemmas.{along_still, leaves_still, or_more}
 
@@ -237,3 +238,18 @@ module _ {K : Type 0} (kept : K → Option (List (List ℕ))) (doubt : K → Opt
 pub judged_at : {K : Type 0} (b now : BookValue K) (state : ProjectState) (groups : Grouping) (tables : Standing) (told : Option (List (List ℕ))) (doubt : Option (List ℕ)) (caller : List ℕ) (asked : Asked) (judged : Judged)
     → b ≡ now → Stands b.log state groups tables told doubt → IsJudged state caller asked judged → IsJudged (after now.log) caller asked judged
 judged_at b now state groups tables told doubt caller asked judged same stands is = subst (λ (s : ProjectState). IsJudged s caller asked judged) (stands.state_is ∙ ap (λ x. after x.log) same) is
+
+-- the change of a request goes on with the history
+pub follows_judged : (log : List Happened) (caller : List ℕ) (asked : Asked) (judged : Judged) (change : Kept) → IsLegal log → IsAsked asked → IsJudged (after log) caller asked judged → judged.kept ≡ Some change → Follows log change
+follows_judged log caller asked judged change legal typed is there = record {
+  legal = legal_step log caller asked (kept_happens change) legal typed (sym is.change ∙ ap (option_map kept_happens) there);
+  change = subst (λ (o : Option Kept). IfSome o (IsKeptChange (after log))) there is.kept;
+}
+
+made_by_kept : (log : List Happened) (asking : List ℕ × Asked) (judged : Judged) (o : Option Kept) → judged.kept ≡ o → IsLegal log → IsAsked asking.1 → IsJudged (after log) asking.0 asking.1 judged → IsMadeBy log asking o
+made_by_kept log asking judged None there legal typed is = sym is.change ∙ ap (option_map kept_happens) there
+made_by_kept log asking judged (Some change) there legal typed is = (sym is.change ∙ ap (option_map kept_happens) there, follows_judged log asking.0 asking.1 judged change legal typed is there)
+
+-- what is kept of a request is the change that it makes
+pub made_judged : (log : List Happened) (asking : List ℕ × Asked) (judged : Judged) → IsLegal log → IsAsked asking.1 → IsJudged (after log) asking.0 asking.1 judged → IsMadeBy log asking judged.kept
+made_judged log asking judged legal typed is = made_by_kept log asking judged judged.kept refl legal typed is

@@ -1,6 +1,6 @@
 -- What a book keeps, behind a change that was kept and behind one that was not.
 use Rattle.std.proofs.Common.{◌≡◌, ◌⊎◌, ℕ, ◌+◌, ◌-◌, ◌<◌, ◌≤◌, ◌^◌, List, [], ◌∷◌, ◌++◌, length, map, Option, Some, None, IfSome, option_map, refl, sym, ◌∙◌, ap, subst, arith, inl, inr}
-use Rattle.std.specs.Prelude.{Result, Ok, Err, IsErrOf}
+use Rattle.std.specs.Prelude.{Result, Err, IsErrOf}
 use Rattle.std.proofs.lemmas.List.{length-map, map-append}
 use Rattle.mark_base.specs.Streams.{TellsFault}
 use Rattle.project_journal.specs.declared.keeper.KeeperFault.{KeeperFault}
@@ -8,42 +8,57 @@ use Rattle.project_journal.specs.declared.keeper.KeeperFault.TheVariants as keep
 use Rattle.entry_bytes.specs.Entries.{entry_bytes}
 use Rattle.label_tracks.specs.Levels.{Grouping, grouping_of}
 use Rattle.kappa_alpha.specs.Standing.{Standing}
-use Rattle.project_journal.specs.Keeper.{IsEntry, IsKeptOrDoubt, IsKeptOrOneMore}
+use Rattle.project_journal.specs.Keeper.{IsKeptOrDoubt, IsKeptOrOneMore}
 use Rattle.project_journal.specs.Stops.{LeavesOnly}
 use Rattle.project_machine.specs.ProjectState.{ProjectState}
-use Rattle.project_machine.specs.Requests.{Asked, Happened, Founded, TextAdded, CheckedOut, TakenOver, LayerCommitted, LayerParked, LayerFinished, LayerReopened, LayerIgnored, LayerReadmitted, SnapshotTaken, ItemDecided, ItemUndecided, AllFreed, Restored}
+use Rattle.project_machine.specs.Requests.{Happened, Founded, TextAdded, CheckedOut, TakenOver, LayerCommitted, LayerParked, LayerFinished, LayerReopened, LayerIgnored, LayerReadmitted, SnapshotTaken, ItemDecided, ItemUndecided, AllFreed, Restored}
 use Rattle.project_machine.specs.Entries.{entries_of, entry_of}
-use Rattle.project_machine.specs.Machine.{step}
 use Rattle.project_machine.specs.History.{after, effect, encoded, last, place_behind}
-use Rattle.project_machine.specs.Legal.{HasRoom, IsKept, IsLegal, legal_step}
+use Rattle.project_machine.specs.Legal.{HasRoom, IsLegal}
 use Rattle.project_machine.specs.Tables.{standing_of}
-use Rattle.project_machine.specs.Asking.{IsKeptBy, IsNext, StaysOrGoes, entry_behind}
-use Rattle.project_machine.proofs.HistoryLemmas.{after_more, last_low, length_push, place_last, step_next}
+use Rattle.project_machine.specs.Asking.{IsKeptBy, IsNext, StaysOrGoes}
+use Rattle.project_machine.proofs.HistoryLemmas.{after_more, last_low, length_push, place_last}
 use Rattle.project_machine.proofs.OpenLemmas.{encoded_more}
 use Rattle.project_state.specs.declared.act.Act.{Act}
 use Rattle.project_state.specs.declared.act.Act.TheVariants as act
 use Rattle.project_state.specs.declared.change.Change.{Change}
+use Rattle.project_state.specs.declared.change.Change.TheVariants as change
 use Rattle.project_state.specs.Acting.{performed}
 use Rattle.project_state.specs.Values.{happened_of}
 use Rattle.project_steps.specs.declared.judging.Kept.{Kept}
-use Rattle.project_steps.specs.Judging.{IsKeptChange, kept_happens}
+use Rattle.project_steps.specs.Judging.{kept_happens}
 use Rattle.project_tables.specs.declared.tabling.TableAct.{TableAct}
 use Rattle.project_tables.specs.declared.tabling.TableAct.TheVariants as table
 use Rattle.project_tables.specs.Tabling.{CanTable, HasSpare, IsTableAct, most_steps, spare_behind, tabled}
-use Rattle.project_book.specs.Keeping.{AreTables, BookValue, Follows, GoesAlong, Stands, TellsKeeper}
+use Rattle.project_book.specs.Keeping.{AreTables, Follows, GoesAlong, Stands, TellsKeeper}
 
 -- ---- the history goes on
 
-pub follows_legal : (log : List Happened) (kept : Kept) → IsLegal log → Follows log kept → IsLegal (log ++ kept_happens kept ∷ [])
-follows_legal log kept legal next = legal_step log next.caller next.asked (kept_happens kept) legal next.typed next.made
+-- what a change of a book makes happen stands at the next place
+next_place : (change : Change) (n : ℕ) → place_behind (happened_of change) n ≡ n + 1
+next_place (change.Found conf roster) n = refl
+next_place (change.AddText by name text) n = refl
+next_place (change.Checkout by doc) n = refl
+next_place (change.TakeOver by doc) n = refl
+next_place (change.Commit by doc hold layer) n = refl
+next_place (change.Park by doc hold done undone) n = refl
+next_place (change.Finish by doc) n = refl
+next_place (change.Reopen by doc who) n = refl
+next_place (change.Snap by doc) n = refl
+next_place (change.Decide by number holder id verdict) n = refl
+next_place (change.Undecide by number holder id) n = refl
+next_place change.FreeAll n = refl
+next_place (change.Ignore by doc who) n = refl
+next_place (change.Readmit by doc who) n = refl
+next_place (change.FoundAt conf roster level) n = refl
 
 -- the act makes the state behind the change
 pub follows_state : (log : List Happened) (kept : Kept) → Follows log kept → performed kept.act (after log) ≡ after (log ++ kept_happens kept ∷ [])
 follows_state log kept next =
-    let place : place_behind (kept_happens kept) (after log).place ≡ (after log).place + 1 = step_next (after log) next.caller next.asked (kept_happens kept) (after log).place next.made in
-    next.change.acts ∙ sym (after_more log (kept_happens kept) ∙ ap (λ n. effect n (kept_happens kept) (after log)) place)
+    next.change.acts ∙ sym (after_more log (kept_happens kept) ∙ ap (λ n. effect n (kept_happens kept) (after log)) (next_place kept.change (after log).place))
 
-one_entry : (s : ProjectState) (e : Happened) → place_behind e 0 ≡ 1 → place_behind e 1 ≡ 2 → entries_of s e ≡ entry_of s e ∷ []
+-- a change that stands at the next place has one entry
+pub one_entry : (s : ProjectState) (e : Happened) → place_behind e 0 ≡ 1 → place_behind e 1 ≡ 2 → entries_of s e ≡ entry_of s e ∷ []
 one_entry s (Founded conf level people) first second = refl
 one_entry s (TextAdded by name text) first second = refl
 one_entry s (CheckedOut by doc) first second = refl
@@ -60,11 +75,11 @@ one_entry s (ItemUndecided by number holder id) first second = refl
 one_entry s AllFreed first second = refl
 one_entry s (Restored place state) first second = absurd (omega (arith, first, second))
 
--- the entries of a history that goes on by a change of a request are one more
+-- the entries of a history that goes on by a change are one more
 pub follows_encoded : (log : List Happened) (kept : Kept) → Follows log kept → encoded (log ++ kept_happens kept ∷ []) ≡ encoded log ++ kept.entry ∷ []
 follows_encoded log kept next =
     encoded_more log (kept_happens kept)
-    ∙ (ap (λ es. encoded log ++ map entry_bytes es) (one_entry (after log) (kept_happens kept) (step_next (after log) next.caller next.asked (kept_happens kept) 0 next.made) (step_next (after log) next.caller next.asked (kept_happens kept) 1 next.made))
+    ∙ (ap (λ es. encoded log ++ map entry_bytes es) (one_entry (after log) (kept_happens kept) (next_place kept.change 0) (next_place kept.change 1))
     ∙ ap (λ bytes. encoded log ++ bytes ∷ []) (sym next.change.entry))
 
 -- ---- what the keeper tells
@@ -82,7 +97,7 @@ kept_more log kept old new doubt doubt_new next by is none = record {
 }
 
 follows_next : (log : List Happened) (kept : Kept) → IsLegal log → Follows log kept → IsNext log kept.entry
-follows_next log kept legal next = record { change = kept_happens kept; legal = follows_legal log kept legal next; entry = next.change.entry }
+follows_next log kept legal next = record { change = kept_happens kept; legal = next.legal; entry = next.change.entry }
 
 next_kept : (log : List Happened) (kept : Kept) (doubt new : Option (List ℕ)) → IsLegal log → Follows log kept → IfSome doubt (IsNext log) → StaysOrGoes doubt new ⊎ (new ≡ Some kept.entry) → IfSome new (IsNext log)
 next_kept log kept doubt new legal next is (inl (inl same)) = subst (λ o. IfSome o (IsNext log)) (sym same) is
@@ -170,7 +185,7 @@ pub stands_next : (log : List Happened) (kept : Kept) (state_old state : Project
     → roomed ≡ record tables_old { spare = roomed.spare } → tables ≡ tabled t roomed → state ≡ performed kept.act state_old
     → told ≡ option_map (λ entries. entries ++ kept.entry ∷ []) told_old → doubt ≡ None → Stands (log ++ kept_happens kept ∷ []) state groups tables told doubt
 stands_next log kept state_old state groups tables_old roomed tables told_old told doubt_old doubt t stands next short tabling made_room made performs told_is certain = record {
-  legal = follows_legal log kept stands.legal next;
+  legal = next.legal;
   room = room_more log (kept_happens kept) short;
   state_is = performs ∙ (ap (performed kept.act) stands.state_is ∙ follows_state log kept next);
   tables_are = subst (λ (s : ProjectState). AreTables s tables) (sym performs) (tables_behind state_old kept.act t roomed tables (roomy state_old tables_old roomed stands.tables_are made_room) tabling made);

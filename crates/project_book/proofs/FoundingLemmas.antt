@@ -1,6 +1,6 @@
 -- What a project begins with.
-use Rattle.std.proofs.Common.{◌≡◌, ◌⊎◌, ℕ, ◌+◌, ◌<◌, ◌≤◌, ◌||◌, Bool, true, false, List, [], ◌∷◌, ◌++◌, length, map, nat_lt, Option, Some, None, IfSome, option_map, refl, sym, ◌∙◌, ap, subst, arith, inl, inr}
-use Rattle.std.specs.Prelude.{Result, Ok, Err}
+use Rattle.std.proofs.Common.{◌≡◌, ℕ, ◌<◌, ◌≤◌, false, List, [], ◌∷◌, ◌++◌, length, map, nat_lt, Option, Some, None, IfSome, option_map, refl, sym, ◌∙◌, ap, subst, arith}
+use Rattle.std.specs.Prelude.{Ok}
 use Rattle.std.proofs.lemmas.Bool.{ltb-false, or_parts}
 use Rattle.entry_bytes.specs.declared.entry.Entry.{Entry}
 use Rattle.entry_bytes.specs.declared.person.Person.{Person}
@@ -15,7 +15,7 @@ use Rattle.project_journal.specs.Stops.{LeavesOnly}
 use Rattle.project_machine.specs.ProjectState.{ProjectState, annotators}
 use Rattle.project_machine.specs.People.{IsRoster}
 use Rattle.project_machine.specs.Requests.{Happened, Founded}
-use Rattle.project_machine.specs.Entries.{entry_of, founding_entry}
+use Rattle.project_machine.specs.Entries.{founding_entry}
 use Rattle.project_machine.specs.History.{after, effect, encoded, unfounded}
 use Rattle.project_machine.specs.Legal.{HasRoom, IsFounding, IsLegal, legal_founding}
 use Rattle.project_machine.specs.Tables.{labelled, standing_of}

@@ -5,3 +5,7 @@ mod AskLemmas
 mod FoundingLemmas
 mod VisitLemmas
 mod AcceptLemmas
+mod EntryLemmas
+mod ReplayLemmas
+mod BegunLemmas
+mod OpeningLemmas

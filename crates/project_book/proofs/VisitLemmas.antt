@@ -1,19 +1,17 @@
 -- What the one visitor of a book sees.
-use Rattle.std.proofs.Common.{◌≡◌, ◌≢◌, ◌⊎◌, ℕ, ◌+◌, ◌-◌, ◌<◌, ◌≤◌, ◌^◌, Bool, true, false, List, [], ◌∷◌, ◌++◌, length, get_or, nat_lt, nat_le, Option, Some, None, zero, suc, refl, sym, ◌∙◌, ap, subst, arith, inl, inr, length-append, if◌then◌else◌}
+use Rattle.std.proofs.Common.{◌≡◌, ℕ, ◌+◌, ◌-◌, ◌<◌, ◌≤◌, true, List, [], ◌∷◌, ◌++◌, length, get_or, nat_le, Option, Some, None, zero, suc, refl, sym, ◌∙◌, ap, subst, arith, inl, if◌then◌else◌}
 use Rattle.std.specs.Prelude.{slice_index}
-use Rattle.std.specs.List.{All, range_with_len}
-use Rattle.std.specs.List.Sorted.{IsStrictlyIncreasing}
+use Rattle.std.specs.List.{range_with_len}
 use Rattle.std.specs.Option.{option_to_list}
 use Rattle.std.proofs.lemmas.List.{append-nil}
 use Rattle.std.proofs.lemmas.List.FromFn.{length-range_with_len, get_or-range_with_len}
 use Rattle.std.proofs.lemmas.Bool.{le-leb, leb-true, lt-ltb, le-ltb}
-use Rattle.mark_base.specs.Streams.{Rose}
 use Rattle.project_machine.specs.declared.book_refusal.BookRefusal.TheVariants as no
 use Rattle.project_machine.specs.Requests.{Asked, Answered, Refused, Happened}
 use Rattle.project_machine.specs.Machine.{step}
 use Rattle.project_machine.specs.History.{after, begin, last}
 use Rattle.project_machine.specs.Legal.{HasRoom, IsLegal}
-use Rattle.project_machine.specs.Asking.{IsCounted, IsStep, IsVisiting, LiesWithin, Replied, StaysFaultless, Visited, Visiting, steps, wants_memory, is_not_kept, gained, stepped_on}
+use Rattle.project_machine.specs.Asking.{IsStep, IsVisiting, StaysFaultless, Visited, steps, wants_memory, is_not_kept, gained}
 use Rattle.project_machine.proofs.HistoryLemmas.{begin_more, legal_some, length_push}
 use Rattle.project_book.specs.Keeping.{TellsKeeper}
 use Rattle.project_book.specs.Visits.{places_above, visiting_alone}

@@ -1,14 +1,12 @@
 -- What a book keeps between two calls, and what a call of it does to its tables and its keeper.
-use Rattle.std.specs.Prelude.{◌≡◌, ℕ, ◌+◌, ◌≤◌, List, [], ◌∷◌, Option, Some}
+use Rattle.std.specs.Prelude.{◌≡◌, ℕ, ◌+◌, ◌≤◌, List, [], ◌∷◌, ◌++◌, Option}
 use Rattle.mark_base.specs.Streams.{TellsFault}
 use Rattle.label_tracks.specs.Levels.{Grouping, grouping_of}
 use Rattle.kappa_alpha.specs.Standing.{Standing}
 use Rattle.project_machine.specs.ProjectState.{ProjectState}
-use Rattle.project_machine.specs.Requests.{Asked, Happened}
-use Rattle.project_machine.specs.Machine.{step}
+use Rattle.project_machine.specs.Requests.{Happened}
 use Rattle.project_machine.specs.History.{after}
 use Rattle.project_machine.specs.Legal.{HasRoom, IsLegal}
-use Rattle.project_machine.specs.Typed.{IsAsked}
 use Rattle.project_machine.specs.Tables.{standing_of}
 use Rattle.project_machine.specs.Asking.{IsKeptBy}
 use Rattle.project_tables.specs.declared.tabling.TableAct.{TableAct}
@@ -35,12 +33,9 @@ pub record Stands (log : List Happened) (state : ProjectState) (groups : Groupin
   pub groups_are : groups ≡ grouping_of state.conf.types state.level
   pub kept_is : IsKeptBy log kept doubt
 
--- a change follows on a history: a typed request makes it, and it comes with its entry and its act
+-- a change follows on a history: it goes on with it, and it comes with its entry and its act
 pub record Follows (log : List Happened) (kept : Kept) : Type 0 where
-  pub caller : List ℕ
-  pub asked : Asked
-  pub typed : IsAsked asked
-  pub made : (step (after log) caller asked).change ≡ Some (kept_happens kept)
+  pub legal : IsLegal (log ++ kept_happens kept ∷ [])
   pub change : IsKeptChange (after log) kept
 
 -- the tables went along: of those before, with room made for some documents, one act makes those behind, in no more steps than the act takes

@@ -32,15 +32,15 @@ const NO_LEVEL: u8 = 255;
 /// What a project begins with, before its founding is kept.
 #[derive(Drop)]
 pub(crate) struct Beginning {
-    state: BookState,
-    groups: Groups,
-    tables: Tables,
-    log: Vec<Change>,
-    entry: Bytes,
+    pub(crate) state: BookState,
+    pub(crate) groups: Groups,
+    pub(crate) tables: Tables,
+    pub(crate) log: Vec<Change>,
+    pub(crate) entry: Bytes,
 }
 
 /// The founding at a level, 255 for none.
-fn founding_change(conf: Arc<Conf>, roster: Roster, level: u8) -> Change
+pub(crate) fn founding_change(conf: Arc<Conf>, roster: Roster, level: u8) -> Change
     ensures { happened_of result ≡ Founded (arc_value conf) level roster }
 {
     if level == NO_LEVEL {
@@ -55,7 +55,7 @@ fn founding_change(conf: Arc<Conf>, roster: Roster, level: u8) -> Change
 }
 
 /// One more owner of a configuration.
-fn share(conf: &Arc<Conf>) -> Result<Arc<Conf>, Memory>
+pub(crate) fn share(conf: &Arc<Conf>) -> Result<Arc<Conf>, Memory>
     ensures { IfOk result (λ shared. arc_value shared ≡ arc_value conf.now) }
 {
     let shared = conf.clone()?;
@@ -115,7 +115,7 @@ fn blank_tables(alloc: Global, state: &BookState, groups: &Groups) -> Result<Tab
 }
 
 /// What a project begins with, at its state, with its founding as a change and as an entry.
-fn complete(
+pub(crate) fn complete(
     alloc: Global,
     state: BookState,
     change: Change,

@@ -9,6 +9,8 @@
 //! book.place(); // 2: the founding, and the text
 //! ```
 //!
+//! A project is opened again from the entries that [`Book::into_keeper`] leaves: [`Book::open`] tells the history anew.
+//!
 //! What a step is, is defined in `project_machine` (`Machine.antt`), and what a book answers and keeps in its
 //! `Asking.antt`. [`Visitor`] is what a connection sees of a project, and [`Alone`] the one visitor of a book of its
 //! own.
@@ -20,13 +22,18 @@ mod book;
 mod found_fault;
 mod founding;
 mod keeping;
+mod kept_already;
 mod laws;
+mod open_fault;
+mod opening;
+mod replaying;
 mod visitor;
 
 pub use crate::alone::Alone;
 pub use crate::book::Book;
 pub use crate::found_fault::FoundFault;
 pub use crate::laws::verdicts_are_accepted;
+pub use crate::open_fault::OpenFault;
 pub use crate::visitor::Visitor;
 pub use project_state::{
     BookRefusal, BookState, Change, DocLine, DocList, Out, PairList, Policy, Reply, Request,

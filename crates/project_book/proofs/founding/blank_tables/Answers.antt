@@ -1,4 +1,4 @@
-use Rattle.std.proofs.Common.{ℕ, ◌≤◌, length, arith}
+use Rattle.std.proofs.Common.{◌≤◌, length, arith}
 use Rattle.project_machine.specs.ProjectState.{annotators}
 use Rattle.project_state.proofs.RosterLemmas.{annotators_few}
 use Rattle.project_book.proofs.founding.blank_tables.Goals as goal

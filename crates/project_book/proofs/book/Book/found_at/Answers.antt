@@ -1,8 +1,6 @@
-use Rattle.std.proofs.Common.{◌≡◌, ℕ, List, [], ◌∷◌, ◌++◌, Option, Some, None, map, option_map, refl, sym, ◌∙◌, subst, arith}
-use Rattle.project_journal.specs.Keeper.{IsKeptOrDoubt, IsKeptOrOneMore}
+use Rattle.std.proofs.Common.{◌≡◌, ℕ, List, [], ◌∷◌, ◌++◌, map, option_map, subst}
 use Rattle.project_state.specs.Values.{happened_of}
 use Rattle.project_book.specs.Founding.{founding_bytes}
-use Rattle.project_book.proofs.BookLemmas.{moment_nothing}
 use Rattle.project_book.proofs.FoundingLemmas.{moment_founded, not_the_keeper, refused_so, stands_founded, tells_nothing}
 use Rattle.project_book.proofs.book.Book.found_at.Goals as goal
 

@@ -1,4 +1,4 @@
-use Rattle.std.proofs.Common.{◌≡◌, ◌⊎◌, ℕ, List, [], ◌∷◌, ◌++◌, Option, Some, Err, length, vec_len, rules, map, option_map, sym, ◌∙◌, ap, subst}
+use Rattle.std.proofs.Common.{◌≡◌, ◌⊎◌, ℕ, List, [], ◌∷◌, ◌++◌, Some, Err, length, vec_len, rules, map, option_map, sym, ◌∙◌, ap, subst}
 use Rattle.project_machine.specs.Requests.{Happened}
 use Rattle.project_machine.specs.Asking.{StaysOrGoes}
 use Rattle.project_state.specs.declared.change.Change.{Change}

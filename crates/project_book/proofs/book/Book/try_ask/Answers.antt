@@ -1,5 +1,5 @@
 use Rattle.project_state.specs.Values.{asked_of}
-use Rattle.project_book.proofs.AskLemmas.{judged_at, keeps_it, only_told, refuses_it, unasked}
+use Rattle.project_book.proofs.AskLemmas.{follows_judged, judged_at, keeps_it, only_told, refuses_it, unasked}
 use Rattle.project_book.proofs.book.Book.try_ask.Goals as goal
 
 pub returns-then-not-is_typed : goal.returns-then-not-is_typed
@@ -31,3 +31,9 @@ returns-in-Err-keep g c =
     c.keeps.ensures.kept
     (judged_at _ c.args.self.now c.self.inside.state.state c.self.inside.groups c.self.inside.tables _ _ c.args.caller.now (asked_of c.args.request) c.in-Ok.judged c.self.view_is c.self.invariant c.in-Ok.ensures) c.in-Some.is
     c.in-Err-keep.ensures.same c.in-Err-keep.ensures.had_room c.in-Err-keep.ensures.doubt c.in-Err-keep.ensures.doubt_memory c.in-Err-keep.ensures.any_moment c.in-Err-keep.ensures.keeper c.in-Err-keep.ensures.tables
+
+pub keep-requires : goal.keep-requires
+keep-requires g c = record {
+  follows = follows_judged c.args.self.now.log c.args.caller.now (asked_of c.args.request) c.in-Ok.judged c.in-Some.kept c.keeps.ensures.legal (c.is_typed.ensures c.if-not-is_typed.false)
+      (judged_at _ c.args.self.now c.self.inside.state.state c.self.inside.groups c.self.inside.tables _ _ c.args.caller.now (asked_of c.args.request) c.in-Ok.judged c.self.view_is c.self.invariant c.in-Ok.ensures) c.in-Some.is;
+}
