@@ -1,6 +1,7 @@
 //! Conversations over each keeper, and what it holds behind them.
 ghost use Rattle.std.specs.Prelude.{◌≡◌, [], None, IfSome};
 
+use crate::again::{again_over_journal, again_over_memory};
 use crate::talks::{conf_in, converse, talk_of};
 use case_books::roster_of;
 use case_words::{Case, CaseFault, Report};
@@ -21,15 +22,17 @@ fn found<K: Keeper>(alloc: Global, case: &Case<'_>, keeper: K) -> Result<Option<
     Ok(Book::found_at(alloc, keeper, conf, roster, level).ok())
 }
 
-/// Has the conversation of a case with a book, and gives its keeper and how many changes there are.
-fn talk_to<K: Keeper, G: Ledger>(
+/// Has the conversation of a case in the section of a name with a book, and gives its keeper and how many changes there
+/// are.
+pub(crate) fn talk_to<K: Keeper, G: Ledger>(
     alloc: Global,
     case: &Case<'_>,
+    name: &str,
     book: Book<K>,
     report: &mut Report,
     steps: &mut Steps<G>,
 ) -> Result<(K, usize), CaseFault> {
-    let talk = talk_of(alloc, case)?;
+    let talk = talk_of(alloc, case, name)?;
     let mut visitor = Alone::new(book);
     converse(alloc, &talk, &mut visitor, report, steps)?;
     let book = visitor.into_book();
@@ -50,9 +53,12 @@ pub(crate) fn over_memory<G: Ledger>(
     let Some(book) = found(alloc, case, keeper)? else {
         return Ok(None);
     };
-    let (keeper, changes) = talk_to(alloc, case, book, report, steps)?;
+    let (keeper, changes) = talk_to(alloc, case, "talk", book, report, steps)?;
     let wanted = case.section("entries").lines;
     report.kept(alloc, keeper.entries(), changes, wanted)?;
+    if case.has("talk again") {
+        again_over_memory(alloc, case, keeper.entries(), report, steps)?;
+    }
     Ok(Some(changes))
 }
 
@@ -93,9 +99,13 @@ pub(crate) fn over_journal<G: Ledger>(
     let Some(book) = found(alloc, case, keeper)? else {
         return Ok(None);
     };
-    let (keeper, changes) = talk_to(alloc, case, book, report, steps)?;
-    let entries = entries_in(alloc, &keeper.into_disk())?;
+    let (keeper, changes) = talk_to(alloc, case, "talk", book, report, steps)?;
+    let disk = keeper.into_disk();
+    let entries = entries_in(alloc, &disk)?;
     let wanted = case.section("entries").lines;
     report.kept(alloc, entries.as_slice(), changes, wanted)?;
+    if case.has("talk again") {
+        again_over_journal(alloc, case, &disk, report, steps)?;
+    }
     Ok(Some(changes))
 }

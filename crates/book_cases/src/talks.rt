@@ -22,11 +22,12 @@ pub(crate) fn conf_in(alloc: Global, case: &Case<'_>) -> Result<Conf, CaseFault>
     conf_of(alloc, section.line, section.lines)
 }
 
-/// The conversation of a case.
-pub(crate) fn talk_of(alloc: Global, case: &Case<'_>) -> Result<Talk, CaseFault> {
+/// The conversation of a case in the section of a name. Its texts are those of the section `talk`.
+pub(crate) fn talk_of(alloc: Global, case: &Case<'_>, name: &str) -> Result<Talk, CaseFault> {
     let conf = conf_in(alloc, case)?;
-    let exchanges = exchanges_of(alloc, case.section("talk"))?;
-    let texts = Texts::of(alloc, exchanges.as_slice())?;
+    let exchanges = exchanges_of(alloc, case.section(name))?;
+    let added = exchanges_of(alloc, case.section("talk"))?;
+    let texts = Texts::of(alloc, added.as_slice())?;
     Ok(Talk {
         conf,
         exchanges,

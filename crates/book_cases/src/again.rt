@@ -1,0 +1,66 @@
+//! Projects that are opened again from what their keepers have, and the conversations that go on with them.
+use crate::keepers::talk_to;
+use case_words::{Case, CaseFault, Report};
+use mark_base::{Bytes, Steps};
+use project_book::Book;
+use project_journal::{Journal, Keeper, MemoryDisk, MemoryKeeper};
+use std::alloc::Global;
+use std::sync::ledger::Ledger;
+
+/// A second list of entries.
+fn copied(alloc: Global, entries: &[Bytes]) -> Result<Vec<Bytes>, CaseFault> {
+    let mut copies = Vec::new(alloc);
+    for entry in entries {
+        copies.push(entry.copy()?)?;
+    }
+    Ok(copies)
+}
+
+/// Goes on with the conversation of a case, with a book that was opened again or was not.
+fn go_on<K: Keeper, G: Ledger>(
+    alloc: Global,
+    case: &Case<'_>,
+    book: Option<Book<K>>,
+    report: &mut Report,
+    steps: &mut Steps<G>,
+) -> Result<(), CaseFault> {
+    match book {
+        Some(book) => {
+            let _ = talk_to(alloc, case, "talk again", book, report, steps)?;
+        }
+        None => report.tell(alloc, case.line, "the project is not opened")?,
+    }
+    Ok(())
+}
+
+/// Goes on over a keeper in memory that has these entries.
+pub(crate) fn again_over_memory<G: Ledger>(
+    alloc: Global,
+    case: &Case<'_>,
+    entries: &[Bytes],
+    report: &mut Report,
+    steps: &mut Steps<G>,
+) -> Result<(), CaseFault> {
+    let entries = copied(alloc, entries)?;
+    let keeper = MemoryKeeper::new(alloc, entries.clone()?, Vec::new(alloc));
+    let book = Book::open(alloc, keeper, entries.as_slice()).ok();
+    go_on(alloc, case, book, report, steps)
+}
+
+/// Goes on over the journal that a disk has.
+pub(crate) fn again_over_journal<G: Ledger>(
+    alloc: Global,
+    case: &Case<'_>,
+    disk: &MemoryDisk,
+    report: &mut Report,
+    steps: &mut Steps<G>,
+) -> Result<(), CaseFault> {
+    let bytes = Bytes::of(alloc, disk.bytes())?;
+    let file = MemoryDisk::new(alloc, bytes, Vec::new(alloc));
+    let Ok((journal, entries)) = Journal::open(alloc, file) else {
+        report.tell(alloc, case.line, "the journal is not opened")?;
+        return Ok(());
+    };
+    let book = Book::open(alloc, journal, entries.as_slice()).ok();
+    go_on(alloc, case, book, report, steps)
+}
