@@ -4,7 +4,7 @@ use Rattle.std.specs.Cmp.Lexicographic.{slice_cmp}
 use Rattle.std.specs.Arc.{arc_value}
 use Rattle.std.specs.declared.cmp.Ordering.TheVariants.{Less}
 use Rattle.layer_model.proofs.Holders.{two_holders}
-use Rattle.tests_base.proofs.layers.snapshot_of.Goals as goal
+use Rattle.base_cases.proofs.snapshots.snapshot_of.Goals as goal
 
 pub of-requires : goal.of-requires
 of-requires c =
