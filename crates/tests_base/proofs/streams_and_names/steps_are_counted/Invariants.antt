@@ -1,4 +1,0 @@
-use Rattle.tests_base.proofs.streams_and_names.steps_are_counted.Given as goal
-
-abbrev pub ghosts-count_two : goal.ghosts-count_two
-ghosts-count_two a = record { name = a.blank.name; parts = a.blank.parts }
