@@ -1,4 +1,4 @@
 use Rattle.book_cases.proofs.main.Given as goal
 
 abbrev pub ghosts-run_all : goal.ghosts-run_all
-ghosts-run_all a b = record { name = b.blank.name; parts = b.blank.parts }
+ghosts-run_all a = record { name = a.blank.name; parts = a.blank.parts }
