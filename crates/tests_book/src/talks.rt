@@ -5,8 +5,8 @@ use annotation_conf::{Conf, read_conf};
 use char_documents::Doc;
 use entry_bytes::Person;
 use layer_model::Layer;
-use mark_base::{Bytes, Slug, Steps};
-use project_book::{Book, BookRefusal, OpenFault, Reply, Request, Roster};
+use mark_base::{Slug, Steps};
+use project_book::{Book, BookRefusal, Reply, Request, Roster};
 use project_journal::MemoryKeeper;
 use std::alloc::Global;
 use std::marker::Brand;
@@ -156,48 +156,4 @@ fn fail_once<L: Ledger, R: Abort>(rt: &R, alloc: Global, blank: Blank) -> Result
 #[test]
 fn a_change_that_is_not_kept_is_asked_anew(rt: HostRuntime) -> Result<(), Fail> {
     fail_once::<Brand, _>(&rt, rt.alloc(), Blank::new(1))
-}
-
-/// A second list of the entries of a keeper.
-fn entries_of(alloc: Global, keeper: &MemoryKeeper) -> Result<Vec<Bytes>, Fail> {
-    let mut entries = Vec::new(alloc);
-    for entry in keeper.entries() {
-        entries.push(entry.copy()?)?;
-    }
-    Ok(entries)
-}
-
-/// The place of the project that is opened again from some entries, or the number of the entry at fault.
-fn opened_at(alloc: Global, entries: Vec<Bytes>) -> Result<Result<u64, u64>, Fail> {
-    let kept = entries.clone()?;
-    let keeper = MemoryKeeper::new(alloc, kept, Vec::new(alloc));
-    match Book::open(alloc, keeper, entries.as_slice()) {
-        Ok(book) => Ok(Ok(book.place())),
-        Err((_, OpenFault::BadEntry(number))) => Ok(Err(number)),
-        Err(_) => Err(Fail::new("the project is not opened")),
-    }
-}
-
-/// A project is opened again behind the freeing of its layer that was out. Where the entry of its text is missing, that
-/// of the checkout is at fault.
-fn open_again<L: Ledger, R: Abort>(rt: &R, alloc: Global, blank: Blank) -> Result<(), Fail>
-    requires name { blank.name ≡ L.name }
-    requires parts { blank.parts ≡ L.parts }
-    requires some { 0 < L.parts }
-{
-    let mut steps = Steps::<L>::new(blank);
-    let mut book = found(alloc, Vec::new(alloc))?;
-    let _added = add(alloc, &mut book, &mut steps)?;
-    let _out = checkout(alloc, &mut book, &mut steps)?;
-    let entries = entries_of(alloc, &book.into_keeper())?;
-    let mut fewer = entries.clone()?;
-    let _text = fewer.remove(1);
-    assert_eq!(rt; opened_at(alloc, entries)?, Ok(4));
-    assert_eq!(rt; opened_at(alloc, fewer)?, Err(2));
-    Ok(())
-}
-
-#[test]
-fn a_project_is_opened_again_from_its_entries(rt: HostRuntime) -> Result<(), Fail> {
-    open_again::<Brand, _>(&rt, rt.alloc(), Blank::new(1))
 }
