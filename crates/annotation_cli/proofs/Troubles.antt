@@ -7,7 +7,7 @@ use Rattle.annotation_http.specs.declared.session.Ending.TheVariants as ending
 use Rattle.annotation_cli.specs.TryDesk.{ending_of}
 use Rattle.annotation_cli.specs.Troubles.{Complains, Says, status_of}
 use Rattle.annotation_cli.specs.declared.trouble.Trouble.{Trouble}
-use Rattle.annotation_cli.specs.declared.trouble.Trouble.TheVariants.{Usage, Conf, Ann, TextNotUtf8, TextTooLong, FileAbsent, FileTooLong, FileFailed, Cut, BadHead, NeedsLength, TooLarge, Encoded, Spent, ReadFault, WriteFault, Memory}
+use Rattle.annotation_cli.specs.declared.trouble.Trouble.TheVariants.{Usage, Conf, Ann, Columns, TextNotUtf8, TextTooLong, FileAbsent, FileTooLong, FileFailed, Cut, BadHead, NeedsLength, TooLarge, Encoded, Spent, ReadFault, WriteFault, Memory}
 
 -- a success is no error
 pub not_err : {X : Type 0} {done : Result X Trouble} {value : X} {named : Trouble} → done ≡ Ok value → done ≡ Err named → ⊥
@@ -35,6 +35,7 @@ status_some true (Conf line what) is = absurd (omega (arith, is))
 status_some false (Conf line what) is = absurd (omega (arith, is))
 status_some true (Ann line what) is = absurd (omega (arith, is))
 status_some false (Ann line what) is = absurd (omega (arith, is))
+status_some verifies (Columns line what) is = absurd (omega (arith, is))
 status_some verifies Usage is = absurd (omega (arith, is))
 status_some verifies TextNotUtf8 is = absurd (omega (arith, is))
 status_some verifies TextTooLong is = absurd (omega (arith, is))

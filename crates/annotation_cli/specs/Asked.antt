@@ -12,6 +12,12 @@ pub record VerifyFiles : Type 0 where
   pub text : List ℕ
   pub ann : List ℕ
 
+-- the names of the files of `columns-in`
+pub record ColumnsFiles : Type 0 where
+  pub conf : List ℕ
+  pub text : List ℕ
+  pub columns : List ℕ
+
 -- a word that begins with a hyphen names no file
 abbrev pub is_file_word : List ℕ → Bool
 is_file_word word = not (slice_index word 0 == 45)
@@ -28,3 +34,10 @@ verify_words (command ∷ conf ∷ text ∷ ann ∷ []) =
     if bytes_eq command (codes "verify") && is_file_word conf && is_file_word text && is_file_word ann
     then Some (record { conf = conf; text = text; ann = ann }) else None
 verify_words words = None
+
+-- the words `columns-in CONF TEXT COLUMNS`
+abbrev pub columns_words : List (List ℕ) → Option ColumnsFiles
+columns_words (command ∷ conf ∷ text ∷ columns ∷ []) =
+    if bytes_eq command (codes "columns-in") && is_file_word conf && is_file_word text && is_file_word columns
+    then Some (record { conf = conf; text = text; columns = columns }) else None
+columns_words words = None

@@ -9,8 +9,12 @@ use Rattle.layer_model.specs.Annotations.{Annotations}
 use Rattle.ann_reader.specs.declared.ann_fault.AnnWhat.{AnnWhat}
 use Rattle.ann_reader.specs.AnnFaults.{ann_fault}
 use Rattle.ann_reader.specs.AnnFiles.{IsAnn}
+use Rattle.token_columns.specs.declared.column_fault.ColumnWhat.{ColumnWhat}
+use Rattle.token_columns.specs.declared.column_fault.ColumnFault.TheVariants as columns
+use Rattle.token_columns.specs.ReadColumns.{read_of}
+use Rattle.token_columns.specs.ColumnFiles.{IsColumns}
 use Rattle.annotation_cli.specs.declared.trouble.Trouble.{Trouble}
-use Rattle.annotation_cli.specs.declared.trouble.Trouble.TheVariants.{Conf, Ann, TextNotUtf8, TextTooLong, FileAbsent, FileTooLong, FileFailed, Memory}
+use Rattle.annotation_cli.specs.declared.trouble.Trouble.TheVariants.{Conf, Ann, Columns, TextNotUtf8, TextTooLong, FileAbsent, FileTooLong, FileFailed, Memory}
 
 -- a file has these bytes, where it is told; one that is not told may have any
 abbrev pub IsFile : Option (Option (List ℕ)) → List ℕ → Type 0
@@ -84,3 +88,20 @@ pub record HasAnnFault (file : Option (Option (List ℕ))) (conf : Configuration
 abbrev pub AnnRefused : Option (Option (List ℕ)) → Configuration → List ℕ → ℕ → ℕ → Trouble → Type 0
 AnnRefused file conf text before now (Ann line what) = HasAnnFault file conf text line what
 AnnRefused file conf text before now trouble = FileRefused file 16777216 before now trouble
+
+-- a file shows a layer in columns, for a configuration and the characters of a text
+pub record HasColumns (file : Option (Option (List ℕ))) (conf : Configuration) (text : List ℕ) (layer : Annotations) : Type 0 where
+  pub bytes : List ℕ
+  pub read : IsFile file bytes
+  pub shown : IsColumns conf text bytes layer
+
+-- a file has a first fault as a column file
+pub record HasColumnFault (file : Option (Option (List ℕ))) (conf : Configuration) (text : List ℕ) (line : ℕ) (what : ColumnWhat) : Type 0 where
+  pub bytes : List ℕ
+  pub read : IsFile file bytes
+  pub fault : read_of conf text bytes ≡ Err (columns.At line what)
+
+-- why a file showed no layer
+abbrev pub ColumnsRefused : Option (Option (List ℕ)) → Configuration → List ℕ → ℕ → ℕ → Trouble → Type 0
+ColumnsRefused file conf text before now (Columns line what) = HasColumnFault file conf text line what
+ColumnsRefused file conf text before now trouble = FileRefused file 16777216 before now trouble

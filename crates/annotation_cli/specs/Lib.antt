@@ -1,4 +1,5 @@
 pub mod Asked
+pub mod ColumnsIn
 pub mod Files
 pub mod Folder
 pub mod Run

@@ -8,8 +8,10 @@ use Rattle.annotation_conf.specs.ConfFaultNames.{conf_name}
 use Rattle.ann_reader.specs.declared.ann_fault.AnnWhat.{AnnWhat}
 use Rattle.ann_reader.specs.declared.ann_fault.AnnWhat.TheVariants as ann
 use Rattle.layer_model.specs.RuleNames.{rule_name}
+use Rattle.token_columns.specs.declared.column_fault.ColumnWhat.{ColumnWhat}
+use Rattle.token_columns.specs.declared.column_fault.ColumnWhat.TheVariants as columns
 use Rattle.annotation_cli.specs.declared.trouble.Trouble.{Trouble}
-use Rattle.annotation_cli.specs.declared.trouble.Trouble.TheVariants.{Usage, Conf, Ann, TextNotUtf8, TextTooLong, FileAbsent, FileTooLong, FileFailed, Cut, BadHead, NeedsLength, TooLarge, Encoded, Spent, ReadFault, WriteFault, Memory}
+use Rattle.annotation_cli.specs.declared.trouble.Trouble.TheVariants.{Usage, Conf, Ann, Columns, TextNotUtf8, TextTooLong, FileAbsent, FileTooLong, FileFailed, Cut, BadHead, NeedsLength, TooLarge, Encoded, Spent, ReadFault, WriteFault, Memory}
 
 -- what is said of a fault of an .ann file: its name, and the place or the rule that it carries
 abbrev pub ann_name : AnnWhat → List ℕ
@@ -20,6 +22,19 @@ ann_name ann.IdTwice = codes "IdTwice"
 ann_name (ann.WrongText place) = codes "WrongText " ++ decimal place
 ann_name (ann.Broken broken) = codes "Broken " ++ rule_name broken
 
+-- what is said of a fault of a column file: its name, and the place that it carries
+abbrev pub column_name : ColumnWhat → List ℕ
+column_name columns.NotUtf8 = codes "NotUtf8"
+column_name columns.BadLine = codes "BadLine"
+column_name columns.TooMany = codes "TooMany"
+column_name (columns.WrongToken place) = codes "WrongToken " ++ decimal place
+column_name columns.UnknownType = codes "UnknownType"
+column_name columns.NotForUse = codes "NotForUse"
+column_name columns.Orphan = codes "Orphan"
+column_name columns.TooLong = codes "TooLong"
+column_name columns.Full = codes "Full"
+column_name columns.TooFew = codes "TooFew"
+
 -- the line of a fault of a file, as `conf line 3: NameTwice`
 abbrev pub at_line : List ℕ → ℕ → List ℕ → List ℕ
 at_line file line name = file ++ (codes " line " ++ (decimal line ++ (codes ": " ++ (name ++ codes "\n"))))
@@ -29,6 +44,7 @@ abbrev pub fixed_line : Trouble → Option (List ℕ)
 fixed_line Usage = Some (codes "usage\n")
 fixed_line (Conf line what) = None
 fixed_line (Ann line what) = None
+fixed_line (Columns line what) = None
 fixed_line TextNotUtf8 = Some (codes "text: NotUtf8\n")
 fixed_line TextTooLong = Some (codes "text: TooLong\n")
 fixed_line FileAbsent = Some (codes "file: Absent\n")
@@ -48,6 +64,7 @@ fixed_line Memory = Some (codes "memory\n")
 abbrev pub numbered_line : Trouble → List ℕ
 numbered_line (Conf line what) = at_line (codes "conf") line (conf_name what)
 numbered_line (Ann line what) = at_line (codes "ann") line (ann_name what)
+numbered_line (Columns line what) = at_line (codes "columns") line (column_name what)
 numbered_line trouble = []
 
 -- the line that says a trouble
@@ -59,6 +76,7 @@ abbrev pub status_of : Bool → Trouble → ℕ
 status_of verifies Usage = 2
 status_of verifies (Conf line what) = if verifies then 1 else 3
 status_of verifies (Ann line what) = if verifies then 1 else 3
+status_of verifies (Columns line what) = 3
 status_of verifies TextNotUtf8 = 3
 status_of verifies TextTooLong = 3
 status_of verifies FileAbsent = 3

@@ -1,6 +1,6 @@
 //! The command that the words are.
 ghost use Rattle.std.specs.Prelude.{◌≡◌, map, option_map, string_bytes};
-ghost use Rattle.annotation_cli.specs.Asked.{is_file_word, try_words, verify_words};
+ghost use Rattle.annotation_cli.specs.Asked.{columns_words, is_file_word, try_words, verify_words};
 
 /// The names of the files of `try`.
 #[derive(Clone, Copy, Debug)]
@@ -15,6 +15,14 @@ pub struct VerifyFiles<'w> {
     pub conf: &'w str,
     pub text: &'w str,
     pub ann: &'w str,
+}
+
+/// The names of the files of `columns-in`.
+#[derive(Clone, Copy, Debug)]
+pub struct ColumnsFiles<'w> {
+    pub conf: &'w str,
+    pub text: &'w str,
+    pub columns: &'w str,
 }
 
 /// Whether a word may name a file.
@@ -60,6 +68,28 @@ pub(crate) fn verify_words(words: &[String]) -> Option<VerifyFiles<'_>>
             conf: conf.as_str(),
             text: text.as_str(),
             ann: ann.as_str(),
+        })
+    } else {
+        None
+    }
+}
+
+/// The files of the words, where they are `columns-in CONF TEXT COLUMNS`.
+pub(crate) fn columns_words(words: &[String]) -> Option<ColumnsFiles<'_>>
+    ensures { option_map (λ files. record { conf = files.conf.now; text = files.text.now; columns = files.columns.now }) result ≡ columns_words (map string_bytes words.now) }
+{
+    let [command, conf, text, columns] = words else {
+        return None;
+    };
+    if command.as_str() == "columns-in"
+        && is_file_word(conf.as_str())
+        && is_file_word(text.as_str())
+        && is_file_word(columns.as_str())
+    {
+        Some(ColumnsFiles {
+            conf: conf.as_str(),
+            text: text.as_str(),
+            columns: columns.as_str(),
         })
     } else {
         None

@@ -1,7 +1,7 @@
-//! The files of a command: a configuration, a text and an .ann file.
+//! The files of a command: a configuration, a text, an .ann file and a column file.
 ghost use Rattle.std.specs.Prelude.{◌≡◌, ◌≢◌, ◌≤◌, ℕ, List, length, chars, IfOk, IfErr, IsErrOf};
 ghost use Rattle.mark_base.specs.Streams.{TellsFault};
-ghost use Rattle.annotation_cli.specs.Files.{AnnRefused, ConfRefused, FileRefused, HasAnn, HasConf, HoldsText, IsFile, TextRefused};
+ghost use Rattle.annotation_cli.specs.Files.{AnnRefused, ColumnsRefused, ConfRefused, FileRefused, HasAnn, HasColumns, HasConf, HoldsText, IsFile, TextRefused};
 
 use crate::folder::{Folder, FolderFault};
 use crate::trouble::Trouble;
@@ -12,6 +12,7 @@ use layer_model::Layer;
 use mark_base::Bytes;
 use std::alloc::Global;
 use std::str;
+use token_columns::{ColumnFault, read_columns};
 
 /// How many bytes a configuration has at most.
 const LONGEST_CONF: u64 = 4_194_304;
@@ -21,6 +22,9 @@ const LONGEST_TEXT: u64 = 800_000;
 
 /// How many bytes an .ann file has at most.
 const LONGEST_ANN: u64 = 16_777_216;
+
+/// How many bytes a column file has at most.
+const LONGEST_COLUMNS: u64 = 16_777_216;
 
 /// Reads a file of at most so many bytes.
 fn read_file<F: Folder>(
@@ -116,5 +120,30 @@ pub(crate) fn read_ann_file<F: Folder>(
         Ok(layer) => Ok(layer),
         Err(AnnFault::At { line, what }) => Err(Trouble::Ann { line, what }),
         Err(AnnFault::Memory) => Err(Trouble::Memory),
+    }
+}
+
+/// The layer that a column file shows for a text and a configuration, or its first fault. Cost: see
+/// [`read_columns`].
+pub(crate) fn read_columns_file<F: Folder>(
+    alloc: Global,
+    folder: &mut F,
+    name: &str,
+    doc: &Doc,
+    conf: &Conf,
+) -> Result<Layer, Trouble>
+    ensures ok { IfOk result (HasColumns (F.file folder.old name.now) conf.now doc.now) }
+    ensures err { IfErr result (ColumnsRefused (F.file folder.old name.now) conf.now doc.now (F.folder_faults folder.old) (F.folder_faults folder.new)) }
+    ensures kept { (other : List ℕ) → F.file folder.new other ≡ F.file folder.old other }
+    ensures later { F.folder_faults folder.old ≤ F.folder_faults folder.new }
+    ensures cause { TellsFault (IsErrOf result Trouble.FileFailed) (F.folder_faults folder.old) (F.folder_faults folder.new) }
+    ensures no_read { IfErr result (λ trouble. trouble ≢ Trouble.ReadFault) }
+    ensures no_write { IfErr result (λ trouble. trouble ≢ Trouble.WriteFault) }
+{
+    let bytes = read_file(alloc, folder, name, LONGEST_COLUMNS)?;
+    match read_columns(alloc, bytes.items(), doc, conf) {
+        Ok(layer) => Ok(layer),
+        Err(ColumnFault::At { line, what }) => Err(Trouble::Columns { line, what }),
+        Err(ColumnFault::Memory) => Err(Trouble::Memory),
     }
 }

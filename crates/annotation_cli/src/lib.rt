@@ -15,6 +15,7 @@
 #![tactic(auto)]
 
 mod asked;
+mod columns_in;
 mod complaint;
 mod examples;
 mod files;

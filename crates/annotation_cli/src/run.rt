@@ -1,10 +1,11 @@
 //! The top call.
 ghost use Rattle.std.specs.Prelude.{◌≡◌, ◌⊎◌, map, string_bytes, IsErrOf, None};
 ghost use Rattle.mark_base.specs.Streams.{Rose, TellsFault};
-ghost use Rattle.annotation_cli.specs.Asked.{try_words, verify_words};
+ghost use Rattle.annotation_cli.specs.Asked.{columns_words, try_words, verify_words};
 ghost use Rattle.annotation_cli.specs.Run.{Does, Runs, is_verify};
 
-use crate::asked::{try_words, verify_words};
+use crate::asked::{columns_words, try_words, verify_words};
+use crate::columns_in::columns_in;
 use crate::complaint::end_run;
 use crate::folder::Folder;
 use crate::trouble::Trouble;
@@ -21,7 +22,7 @@ fn perform<F: Folder, C: Link>(
     folder: &mut F,
     console: &mut C,
 ) -> Result<(), Trouble>
-    ensures told { Does (F.file folder.old) (try_words (map string_bytes words.now)) (verify_words (map string_bytes words.now))
+    ensures told { Does (F.file folder.old) (try_words (map string_bytes words.now)) (verify_words (map string_bytes words.now)) (columns_words (map string_bytes words.now))
         (F.folder_faults folder.old) (F.folder_faults folder.new)
         (C.left console.old) (C.left console.new) (C.held console.old) (C.held console.new) result }
     ensures folder { TellsFault (IsErrOf result Trouble.FileFailed) (F.folder_faults folder.old) (F.folder_faults folder.new) }
@@ -31,8 +32,11 @@ fn perform<F: Folder, C: Link>(
     if let Some(files) = try_words(words) {
         return try_desk(alloc, files, folder, console);
     }
-    match verify_words(words) {
-        Some(files) => verify(alloc, files, folder, console),
+    if let Some(files) = verify_words(words) {
+        return verify(alloc, files, folder, console);
+    }
+    match columns_words(words) {
+        Some(files) => columns_in(alloc, files, folder, console),
         None => Err(Trouble::Usage),
     }
 }
@@ -48,7 +52,8 @@ fn is_verify(words: &[String]) -> bool
 ///
 /// `try CONF TEXT` serves the console from a desk on a configuration and a text. `verify CONF TEXT ANN`
 /// reads a configuration, a text and an .ann file, and writes how many annotations of each sort the last
-/// one has.
+/// one has. `columns-in CONF TEXT COLUMNS` reads a configuration, a text and a column file, and writes the .ann
+/// lines of the layer that the last one shows.
 ///
 /// | status | comes |
 /// |---|---|
@@ -70,7 +75,8 @@ pub fn run<F: Folder, C: Link, P: Sink>(
         (F.folder_faults world.old.folder) (F.folder_faults world.new.folder)
         (C.left world.old.console) (C.left world.new.console) (C.held world.old.console) (C.held world.new.console)
         (P.held world.old.complaint) (P.held world.new.complaint) (P.write_faults world.old.complaint) (P.write_faults world.new.complaint) result }
-    ensures words { result ≡ 2 → (try_words (map string_bytes words.now) ≡ None) × (verify_words (map string_bytes words.now) ≡ None) }
+    ensures words { result ≡ 2 → (try_words (map string_bytes words.now) ≡ None) × (verify_words (map string_bytes words.now) ≡ None)
+        × (columns_words (map string_bytes words.now) ≡ None) }
     ensures folder { result ≡ 4 → Rose (F.folder_faults world.old.folder) (F.folder_faults world.new.folder) }
     ensures read { result ≡ 5 → Rose (C.read_faults world.old.console) (C.read_faults world.new.console) }
     ensures write { result ≡ 6 → Rose (C.write_faults world.old.console) (C.write_faults world.new.console)

@@ -1,11 +1,12 @@
 //! Why a run does not do its job, and the line and the status that say so.
 ghost use Rattle.std.specs.Prelude.{◌≡◌, ◌++◌, IfOk, codes, decimal, option_map, string_bytes};
-ghost use Rattle.annotation_cli.specs.Troubles.{ann_name, at_line, fixed_line, numbered_line, status_of};
+ghost use Rattle.annotation_cli.specs.Troubles.{ann_name, at_line, column_name, fixed_line, numbered_line, status_of};
 
 use ann_reader::AnnWhat;
 use annotation_conf::ConfWhat;
 use mark_base::Memory;
 use std::alloc::Global;
+use token_columns::ColumnWhat;
 
 /// Why a run does not do its job.
 #[derive(Clone, Copy, Debug)]
@@ -16,6 +17,8 @@ pub enum Trouble {
     Conf { line: u32, what: ConfWhat },
     /// The first fault of an .ann file, on a line that is counted from 1.
     Ann { line: u32, what: AnnWhat },
+    /// The first fault of a column file, on a line that is counted from 1.
+    Columns { line: u32, what: ColumnWhat },
     /// A text that is not UTF-8.
     TextNotUtf8,
     /// A text of more than 200,000 characters.
@@ -63,6 +66,24 @@ fn ann_name(alloc: Global, what: AnnWhat) -> Result<String, Memory>
     })
 }
 
+/// What is said of a fault of a column file: its name, and the place that it carries.
+fn column_name(alloc: Global, what: ColumnWhat) -> Result<String, Memory>
+    ensures { IfOk result (λ name. string_bytes name ≡ column_name what) }
+{
+    Ok(match what {
+        ColumnWhat::NotUtf8 => String::from_str(alloc, "NotUtf8")?,
+        ColumnWhat::BadLine => String::from_str(alloc, "BadLine")?,
+        ColumnWhat::TooMany => String::from_str(alloc, "TooMany")?,
+        ColumnWhat::WrongToken(place) => format!(in alloc; "WrongToken {place}")?,
+        ColumnWhat::UnknownType => String::from_str(alloc, "UnknownType")?,
+        ColumnWhat::NotForUse => String::from_str(alloc, "NotForUse")?,
+        ColumnWhat::Orphan => String::from_str(alloc, "Orphan")?,
+        ColumnWhat::TooLong => String::from_str(alloc, "TooLong")?,
+        ColumnWhat::Full => String::from_str(alloc, "Full")?,
+        ColumnWhat::TooFew => String::from_str(alloc, "TooFew")?,
+    })
+}
+
 /// The line of a fault of a file.
 fn at_line(alloc: Global, file: &str, line: u32, name: &str) -> Result<String, Memory>
     ensures { IfOk result (λ text. string_bytes text ≡ at_line file.now line name.now) }
@@ -95,6 +116,7 @@ impl Trouble {
             Trouble::Usage => Some("usage\n"),
             Trouble::Conf { .. } => None,
             Trouble::Ann { .. } => None,
+            Trouble::Columns { .. } => None,
             Trouble::TextNotUtf8 => Some("text: NotUtf8\n"),
             Trouble::TextTooLong => Some("text: TooLong\n"),
             Trouble::FileAbsent => Some("file: Absent\n"),
@@ -121,6 +143,10 @@ impl Trouble {
             Trouble::Ann { line, what } => {
                 let name = ann_name(alloc, what)?;
                 at_line(alloc, "ann", line, &name)
+            }
+            Trouble::Columns { line, what } => {
+                let name = column_name(alloc, what)?;
+                at_line(alloc, "columns", line, &name)
             }
             _ => Ok(String::new(alloc)),
         }
