@@ -18,9 +18,10 @@ use Rattle.project_steps.specs.Judging.{kept_happens}
 use Rattle.project_book.specs.declared.open_fault.OpenFault.{OpenFault}
 use Rattle.project_book.specs.declared.open_fault.OpenFault.TheVariants as fault
 use Rattle.project_book.specs.Keeping.{Stands}
-use Rattle.project_book.specs.Opening.{IsOpenRefusal}
+use Rattle.project_book.specs.Opening.{IsOnlyOpened, IsOpenRefusal}
 use Rattle.project_book.specs.Replaying.{IsFreeing, IsReplay, IsReplayRefusal}
 use Rattle.project_book.proofs.BookLemmas.{leaves_still}
+use Rattle.project_book.proofs.ReplayLemmas.{whole_history}
 
 -- over its keeper a project stands
 pub stands_over : (log : List Happened) (state : ProjectState) (groups : Grouping) (tables : Standing) (told_before : Option (List (List ℕ))) (doubt_before : Option (List ℕ)) (told : Option (List (List ℕ))) (doubt : Option (List ℕ))
@@ -115,6 +116,9 @@ given_back entries told doubt same certain = record { same = same; doubtful = in
 
 pub opened : (entries : List (List ℕ)) (log now : List Happened) → IsReplay entries log → now ≡ with_freeing log → IsOpened entries now
 opened entries log now replay is = record { log = log; legal = replay.legal; told = replay.told; freed = is }
+
+pub only_opened : (entries : List (List ℕ)) (log now : List Happened) → IsReplay entries log → now ≡ with_freeing log → IsOnlyOpened entries now
+only_opened entries log now replay is other opened = opened.freed ∙ (ap with_freeing (whole_history entries log opened.log replay opened.legal opened.told) ∙ sym is)
 
 pub kept_open : (log : List Happened) (told : Option (List (List ℕ))) (doubt : Option (List ℕ)) → IsKeptBy log told doubt → doubt ≡ None → HasRoom log → IsKeptOpen log told doubt
 kept_open log told doubt by certain room = record { all = by.entries; certain = certain; room = room }

@@ -449,3 +449,16 @@ replay_taken entries place log now bytes taken within is replay up so =
 pub bad_taken : (entries : List (List ℕ)) (place : ℕ) (log now : List Happened) (bytes : List ℕ) (taken : Bool) → place < length entries → bytes ≡ get_or entries place bytes → IsReplay (take place entries) log → IsTakenUp log bytes now taken → taken ≡ false
     → IsBadEntry entries (place + 1)
 bad_taken entries place log now bytes taken within is replay up so = bad_next entries place log bytes within is replay (subst (IsTakenUp log bytes now) so up).0
+
+-- ---- the one history of some entries
+
+same_whole : (log rest other : List Happened) → other ≡ log ++ rest → [] ≡ encoded_from (after log) (numbered_from (place_from 0 log) rest) → other ≡ log
+same_whole log [] other is none = is ∙ append-nil log
+same_whole log (x ∷ rest) other is none = absurd (some_of (after log) x _ none)
+
+-- no other history has the entries that tell one
+pub whole_history : (entries : List (List ℕ)) (log other : List Happened) → IsReplay entries log → IsLegal other → entries ≡ encoded other → other ≡ log
+whole_history entries log other replay legal same =
+    let on : GoesOn log other = replay.only other [] legal (append-nil entries ∙ same) in
+    same_whole log on.0 other on.1
+    (append_cancel_left (encoded log) [] (encoded_from (after log) (numbered_from (place_from 0 log) on.0)) (append-nil (encoded log) ∙ (sym replay.told ∙ (same ∙ (ap encoded on.1 ∙ encoded_append log on.0)))))

@@ -9,7 +9,12 @@
 //! book.place(); // 2: the founding, and the text
 //! ```
 //!
-//! A project is opened again from the entries that [`Book::into_keeper`] leaves: [`Book::open`] tells the history anew.
+//! It is opened again from the file of its journal, whose entries tell the history anew:
+//!
+//! ```text
+//! let (journal, entries) = Journal::open(alloc, disk)?;
+//! let book = Book::open(alloc, journal, entries.as_slice()).map_err(|(_, fault)| fault)?;
+//! ```
 //!
 //! What a step is, is defined in `project_machine` (`Machine.antt`), and what a book answers and keeps in its
 //! `Asking.antt`. [`Visitor`] is what a connection sees of a project, and [`Alone`] the one visitor of a book of its

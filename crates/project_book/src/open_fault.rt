@@ -7,13 +7,12 @@ use mark_base::Memory;
 /// Why a project is not opened again from the entries of its journal.
 #[derive(Clone, Copy, Debug, PartialEq, Eq)]
 pub enum OpenFault {
-    /// The entry of this number, from 1, is at fault: there is none where the number is 1, or it is no entry, or the
-    /// project at that place does not make it. Where the entries begin with a state, the number is one past the last
-    /// if its end is missing.
+    /// The entry of this number, from 1, is at fault: it is no entry, or the project at that place does not make it; or
+    /// the number is 1 and there are no entries.
     BadEntry(u64),
     /// The keeper failed, and counted it.
     Keeper,
-    /// Memory ran out.
+    /// Memory ran out; or the entries begin with a whole state in place of a founding, which is not read yet.
     Memory,
 }
 

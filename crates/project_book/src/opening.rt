@@ -4,7 +4,7 @@ ghost use Rattle.project_journal.specs.Stops.{LeavesOnly};
 ghost use Rattle.project_machine.specs.History.{encoded};
 ghost use Rattle.project_machine.specs.Opening.{IsGivenBack, IsKeptOpen, IsLeftByOpening, IsOpened, freeing_bytes, with_freeing};
 ghost use Rattle.project_book.specs.Keeping.{TellsKeeper};
-ghost use Rattle.project_book.specs.Opening.{IsOpenRefusal, OpeningFailed, opened_keeper};
+ghost use Rattle.project_book.specs.Opening.{IsOnlyOpened, IsOpenRefusal, OpeningFailed, opened_keeper};
 
 use crate::book::Book;
 use crate::kept_already::KeptAlready;
@@ -72,16 +72,17 @@ impl<K: Keeper> Book<K> {
     }
 
     /// Opens a project again from the entries that its keeper has, as `Journal::open` gives them. Where some layer is
-    /// out, all are freed, by one change more. A refusal gives the keeper back with the entries that it had; behind
-    /// `Keeper` a stop may still leave the freeing. Cost, read off the code and not measured: the bytes of the entries
+    /// out, all are freed, by one change more. A refusal gives the keeper back with the entries that it had. Behind
+    /// `Keeper` a stop may still leave the freeing, so the journal is to be opened anew from its file. Cost, read off the code and not measured: the bytes of the entries
     /// and what each of the requests costs that made them.
     ///
     /// Entries that begin with a whole state, in place of a founding, are not read yet: `Memory` is answered.
     pub fn open(alloc: Global, keeper: K, entries: &[Bytes]) -> Result<Book<K>, (K, OpenFault)>
         requires kept { IfSome (K.kept keeper) (λ told. told ≡ entries.now) }
         requires certain { K.doubt keeper ≡ None }
-        // The history is the one of the entries, with a freeing where some layer is out.
+        // The history is the one whose entries these are, with a freeing where some layer is out.
         ensures opened { IfOk result (λ book. IsOpened entries.now book.log) }
+        ensures only { IfOk result (λ book. IsOnlyOpened entries.now book.log) }
         ensures kept { IfOk result (λ book. IsKeptOpen book.log (K.kept book.keeper) (K.doubt book.keeper)) }
         // The first entry that is at fault, or the keeper failed, or memory ran out.
         ensures refused { IfErr result (λ back. IsOpenRefusal entries.now back.1) }
