@@ -1,5 +1,5 @@
 -- A history that was told again, over the keeper of its entries, and the freeing of the layers that are out.
-use Rattle.std.proofs.Common.{◌≡◌, ◌⊎◌, ℕ, false, cond, List, [], ◌∷◌, ◌++◌, Option, Some, None, IfSome, refl, sym, ◌∙◌, ap, subst, inl, inr}
+use Rattle.std.proofs.Common.{◌≡◌, ◌⊎◌, ℕ, true, false, cond, List, [], ◌∷◌, ◌++◌, Option, Some, None, IfSome, refl, sym, ◌∙◌, ap, subst, inl, inr}
 use Rattle.std.specs.Prelude.{Err, IsErrOf}
 use Rattle.label_tracks.specs.Levels.{Grouping}
 use Rattle.kappa_alpha.specs.Standing.{Standing}
@@ -11,17 +11,20 @@ use Rattle.project_machine.specs.ProjectState.{ProjectState, is_some_out}
 use Rattle.project_machine.specs.Requests.{Happened, AllFreed}
 use Rattle.project_machine.specs.Asking.{IsKeptBy, IsNext, StaysOrGoes}
 use Rattle.project_machine.specs.History.{after, encoded}
-use Rattle.project_machine.specs.Legal.{HasRoom}
-use Rattle.project_machine.specs.Opening.{IsGivenBack, IsKeptOpen, IsLeftByOpening, IsOpened, freeing_bytes, with_freeing}
+use Rattle.project_machine.specs.Legal.{HasRoom, IsLegal}
+use Rattle.project_machine.specs.Opening.{IsFreeingDoubted, IsGivenBack, IsKeptOpen, IsLeftByOpening, IsOpened, IsReplay, IsToFree, freeing_bytes, with_freeing}
 use Rattle.project_steps.specs.declared.judging.Kept.{Kept}
 use Rattle.project_steps.specs.Judging.{kept_happens}
 use Rattle.project_book.specs.declared.open_fault.OpenFault.{OpenFault}
 use Rattle.project_book.specs.declared.open_fault.OpenFault.TheVariants as fault
 use Rattle.project_book.specs.Keeping.{Stands}
 use Rattle.project_book.specs.Opening.{IsOnlyOpened, IsOpenRefusal}
-use Rattle.project_book.specs.Replaying.{IsFreeing, IsReplay, IsReplayRefusal}
+use Rattle.project_book.specs.Replaying.{IsFreeing, IsReplayRefusal}
 use Rattle.project_book.proofs.BookLemmas.{leaves_still}
 use Rattle.project_book.proofs.ReplayLemmas.{whole_history}
+
+none_some : {X : Type 0} (x : X) → None ≡ Some x → ⊥
+none_some x e = cc
 
 -- over its keeper a project stands
 pub stands_over : (log : List Happened) (state : ProjectState) (groups : Grouping) (tables : Standing) (told_before : Option (List (List ℕ))) (doubt_before : Option (List ℕ)) (told : Option (List (List ℕ))) (doubt : Option (List ℕ))
@@ -53,10 +56,18 @@ nothing_freed log none = sym (ap (λ b. cond b (log ++ AllFreed ∷ []) log) non
 pub is_freed : (log now : List Happened) (change : Kept) → IsFreeing log (Some change) → now ≡ log ++ kept_happens change ∷ [] → now ≡ with_freeing log
 is_freed log now change is more = more ∙ (ap (λ e. log ++ e ∷ []) is.2 ∙ sym (ap (λ b. cond b (log ++ AllFreed ∷ []) log) is.3))
 
-one_or_more : (entries : List (List ℕ)) (found : Option (List (List ℕ))) → IsKeptOrOneMore entries None freeing_bytes found → IsLeftByOpening entries found
-one_or_more entries found (inl same) = inl same
-one_or_more entries found (inr (inl more)) = inr more
-one_or_more entries found (inr (inr none)) = absurd none
+some_same : {X : Type 0} (x y : X) → Some x ≡ Some y → x ≡ y
+some_same x y e = cc
+
+-- where a keeper tells the entries of a history of which some layer is out, they are to be freed
+to_free : (entries : List (List ℕ)) (log : List Happened) (told : Option (List (List ℕ))) → IsLegal log → is_some_out (after log) ≡ true → IfSome told (λ es. es ≡ encoded log) → told ≡ Some entries → IsToFree entries
+to_free entries log None legal out is same = absurd (none_some entries same)
+to_free entries log (Some es) legal out is same = record { log = log; legal = legal; told = sym (some_same es entries same) ∙ is; out = out }
+
+one_or_more : (entries : List (List ℕ)) (found : Option (List (List ℕ))) → IsToFree entries → IsKeptOrOneMore entries None freeing_bytes found → IsLeftByOpening entries found
+one_or_more entries found out (inl same) = inl same
+one_or_more entries found out (inr (inl more)) = inr (out, more)
+one_or_more entries found out (inr (inr none)) = absurd none
 
 alone : (entries : List (List ℕ)) (found : Option (List (List ℕ))) → IsKeptOrDoubt entries None found → IsLeftByOpening entries found
 alone entries found (inl same) = inl same
@@ -74,11 +85,11 @@ weaker moment left_since old new P Q to is = record {
     either x (inr p) = inr (to x p)
 
 -- what a stop leaves where a freeing was handed to the keeper
-pub left_freeing : {K : Type 0} (kept : K → Option (List (List ℕ))) (doubt : K → Option (List ℕ)) (moment : K → ℕ) (left_since : K → ℕ → Option (List (List ℕ)) → Type 0) (old new : K) (bytes : List ℕ) → doubt old ≡ None → bytes ≡ freeing_bytes
-    → ((entries : List (List ℕ)) → kept old ≡ Some entries → LeavesOnly moment left_since old new (IsKeptOrOneMore entries (doubt old) bytes)) → (entries : List (List ℕ)) → kept old ≡ Some entries → LeavesOnly moment left_since old new (IsLeftByOpening entries)
-left_freeing kept doubt moment left_since old new bytes certain is left entries told =
-    weaker moment left_since old new (IsKeptOrOneMore entries None freeing_bytes) (IsLeftByOpening entries) (one_or_more entries)
-    (subst (λ d. LeavesOnly moment left_since old new (IsKeptOrOneMore entries d freeing_bytes)) certain (subst (λ b. LeavesOnly moment left_since old new (IsKeptOrOneMore entries (doubt old) b)) is (left entries told)))
+pub left_freeing : {K : Type 0} (kept : K → Option (List (List ℕ))) (doubt : K → Option (List ℕ)) (moment : K → ℕ) (left_since : K → ℕ → Option (List (List ℕ)) → Type 0) (old new : K) (log : List Happened) (change : Kept) → doubt old ≡ None → IsLegal log → IsKeptBy log (kept old) (doubt old) → IsFreeing log (Some change)
+    → ((entries : List (List ℕ)) → kept old ≡ Some entries → LeavesOnly moment left_since old new (IsKeptOrOneMore entries (doubt old) change.entry)) → (entries : List (List ℕ)) → kept old ≡ Some entries → LeavesOnly moment left_since old new (IsLeftByOpening entries)
+left_freeing kept doubt moment left_since old new log change certain legal by is left entries told =
+    weaker moment left_since old new (IsKeptOrOneMore entries None freeing_bytes) (IsLeftByOpening entries) (λ found. one_or_more entries found (to_free entries log (kept old) legal is.3 by.entries told))
+    (subst (λ d. LeavesOnly moment left_since old new (IsKeptOrOneMore entries d freeing_bytes)) certain (subst (λ b. LeavesOnly moment left_since old new (IsKeptOrOneMore entries (doubt old) b)) is.1 (left entries told)))
 
 -- and where nothing was
 pub left_alone : {K : Type 0} (kept : K → Option (List (List ℕ))) (doubt : K → Option (List ℕ)) (moment : K → ℕ) (left_since : K → ℕ → Option (List (List ℕ)) → Type 0)
@@ -92,14 +103,14 @@ stays_none old new none (inl same) = same ∙ none
 stays_none old new none (inr gone) = gone
 
 -- what is in doubt behind a freeing that was refused
-pub doubt_freeing : {T : Type 0} (f : KeeperFault) (old new : Option (List ℕ)) (bytes : List ℕ) → old ≡ None → bytes ≡ freeing_bytes
-    → (IsErrOf {T = T} (Err f) keeper.Failed → StaysOrGoes old new ⊎ (new ≡ Some bytes)) → (IsErrOf {T = T} (Err f) keeper.Memory → StaysOrGoes old new) → (new ≡ None) ⊎ (new ≡ Some freeing_bytes)
-doubt_freeing keeper.Failed old new bytes none is failed memory = by (failed refl)
+pub doubt_freeing : {T : Type 0} (f : KeeperFault) (old new : Option (List ℕ)) (log : List Happened) (change : Kept) → old ≡ None → IsLegal log → IsFreeing log (Some change)
+    → (IsErrOf {T = T} (Err f) keeper.Failed → StaysOrGoes old new ⊎ (new ≡ Some change.entry)) → (IsErrOf {T = T} (Err f) keeper.Memory → StaysOrGoes old new) → (new ≡ None) ⊎ IsFreeingDoubted (encoded log) (f ≡ keeper.Failed) new
+doubt_freeing keeper.Failed old new log change none legal is failed memory = by (failed refl)
   where
-    by : StaysOrGoes old new ⊎ (new ≡ Some bytes) → (new ≡ None) ⊎ (new ≡ Some freeing_bytes)
+    by : StaysOrGoes old new ⊎ (new ≡ Some change.entry) → (new ≡ None) ⊎ IsFreeingDoubted (encoded log) (keeper.Failed ≡ keeper.Failed) new
     by (inl stays) = inl (stays_none old new none stays)
-    by (inr own) = inr (own ∙ ap (λ (b : List ℕ). Some b) is)
-doubt_freeing keeper.Memory old new bytes none is failed memory = inl (stays_none old new none (memory refl))
+    by (inr own) = inr (record { out = record { log = log; legal = legal; told = refl; out = is.3 }; cause = refl; freeing = own ∙ ap (λ (b : List ℕ). Some b) is.1 })
+doubt_freeing keeper.Memory old new log change none legal is failed memory = inl (stays_none old new none (memory refl))
 
 -- ---- what an opening answers
 
@@ -111,8 +122,17 @@ refused_so entries fault.Keeper is = tt
 pub not_the_keeper : (entries : List (List ℕ)) (f : OpenFault) → IsReplayRefusal entries f → f ≡ fault.Keeper → ⊥
 not_the_keeper entries f is e = subst (IsReplayRefusal entries) e is
 
-pub given_back : (entries : List (List ℕ)) (told : Option (List (List ℕ))) (doubt : Option (List ℕ)) → IfSome told (λ es. es ≡ entries) → doubt ≡ None → IsGivenBack entries told doubt
-given_back entries told doubt same certain = record { same = same; doubtful = inl certain }
+pub given_back : (entries : List (List ℕ)) (failed : Type 0) (told : Option (List (List ℕ))) (doubt : Option (List ℕ)) → IfSome told (λ es. es ≡ entries) → doubt ≡ None → IsGivenBack entries failed told doubt
+given_back entries failed told doubt same certain = record { same = same; doubtful = inl certain }
+
+-- what is in doubt behind an opening whose freeing was refused
+pub given_back_freeing : (entries : List (List ℕ)) (log : List Happened) (failed now : Type 0) (told : Option (List (List ℕ))) (doubt : Option (List ℕ)) → IsReplay entries log → IfSome told (λ es. es ≡ encoded log) → (failed → now) → (doubt ≡ None) ⊎ IsFreeingDoubted (encoded log) failed doubt
+    → IsGivenBack entries now told doubt
+given_back_freeing entries log failed now told doubt replay is cause (inl certain) = given_back entries now told doubt (told_back entries log told replay is) certain
+given_back_freeing entries log failed now told doubt replay is cause (inr freeing) = record {
+  same = told_back entries log told replay is;
+  doubtful = inr (record { out = subst IsToFree (sym replay.told) freeing.out; cause = cause freeing.cause; freeing = freeing.freeing });
+}
 
 pub opened : (entries : List (List ℕ)) (log now : List Happened) → IsReplay entries log → now ≡ with_freeing log → IsOpened entries now
 opened entries log now replay is = record { log = log; legal = replay.legal; told = replay.told; freed = is }

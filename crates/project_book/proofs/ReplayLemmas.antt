@@ -18,7 +18,7 @@ use Rattle.project_machine.specs.AskedFor.{asked_for, next_by}
 use Rattle.project_machine.specs.Asking.{entry_behind}
 use Rattle.project_machine.specs.History.{after, after_places, effect, encoded, encoded_from, numbered_from, place_behind, unfounded}
 use Rattle.project_machine.specs.Legal.{IsFounding, IsKept, IsLegal, legal_founding, legal_restored, legal_step, legal_freeing}
-use Rattle.project_machine.specs.Opening.{IsBadEntry, IsBegun, freeing_bytes, is_lacking, is_not_accepted}
+use Rattle.project_machine.specs.Opening.{GoesOn, IsBadEntry, IsBegun, IsReplay, freeing_bytes, is_lacking, is_not_accepted}
 use Rattle.project_machine.proofs.HistoryLemmas.{front_legal, legal_some, step_next}
 use Rattle.project_machine.proofs.OpenLemmas.{encoded_more}
 use Rattle.project_entries.specs.declared.asking.Asking.{Asking}
@@ -33,7 +33,7 @@ use Rattle.project_state.specs.Values.{happened_of}
 use Rattle.project_steps.specs.declared.judging.Kept.{Kept}
 use Rattle.project_steps.specs.Judging.{kept_happens}
 use Rattle.project_book.specs.Founding.{founded}
-use Rattle.project_book.specs.Replaying.{GoesOn, HasEntry, IsAskedBy, IsAskingOf, IsFoundingBy, IsFreeing, IsMadeBy, IsNextKept, IsNoBeginning, IsNoneNext, IsOnlyNext, IsReading, IsReplay, IsTakenUp}
+use Rattle.project_book.specs.Replaying.{HasEntry, IsAskedBy, IsAskingOf, IsFoundingBy, IsFreeing, IsMadeBy, IsNextKept, IsNoBeginning, IsNoneNext, IsOnlyNext, IsReading, IsTakenUp}
 use Rattle.project_book.proofs.BookLemmas.{one_entry}
 use Rattle.project_book.proofs.EntryLemmas.{Goes, ReadBack, WrittenIsUtf8, by_freeing, by_request, founding_is, goes, next_is}
 

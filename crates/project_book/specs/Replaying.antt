@@ -8,7 +8,7 @@ use Rattle.project_machine.specs.AskedFor.{asked_for}
 use Rattle.project_machine.specs.Machine.{step}
 use Rattle.project_machine.specs.History.{after, encoded}
 use Rattle.project_machine.specs.Legal.{IsFounding, IsLegal}
-use Rattle.project_machine.specs.Opening.{IsBadEntry, freeing_bytes}
+use Rattle.project_machine.specs.Opening.{IsBadEntry, IsReplay, freeing_bytes}
 use Rattle.project_machine.specs.ProjectState.{is_some_out}
 use Rattle.project_machine.specs.Requests.{Asked, Happened, AllFreed}
 use Rattle.project_entries.specs.declared.asking.Asking.{Asking}
@@ -20,10 +20,6 @@ use Rattle.project_book.specs.declared.open_fault.OpenFault.{OpenFault}
 use Rattle.project_book.specs.declared.open_fault.OpenFault.TheVariants as fault
 use Rattle.project_book.specs.Founding.{founded}
 use Rattle.project_book.specs.Keeping.{BookValue, Follows}
-
--- a history goes on with another
-abbrev pub GoesOn : List Happened → List Happened → Type 0
-GoesOn log other = (rest : List Happened) × (other ≡ log ++ rest)
 
 -- ---- one entry
 
@@ -75,12 +71,6 @@ IsTakenUp log bytes now true = (change : Happened) × HasEntry log bytes change 
 IsTakenUp log bytes now false = IsNoneNext log bytes × (now ≡ log)
 
 -- ---- all entries
-
--- entries tell a history: they are its entries, and each history whose entries begin with them goes on with it
-pub record IsReplay (entries : List (List ℕ)) (log : List Happened) : Type 0 where
-  pub legal : IsLegal log
-  pub told : entries ≡ encoded log
-  pub only : (other : List Happened) (more : List (List ℕ)) → IsLegal other → entries ++ more ≡ encoded other → GoesOn log other
 
 -- no history begins with this entry
 abbrev pub IsNoBeginning : List ℕ → Type 0

@@ -2,7 +2,7 @@
 ghost use Rattle.std.specs.Prelude.{◌≡◌, ◌⊎◌, ◌<◌, ℕ, List, None, Some, IfErr, IfOk, IfSome, IsErrOf, OnErr, OnOk};
 ghost use Rattle.project_journal.specs.Stops.{LeavesOnly};
 ghost use Rattle.project_machine.specs.History.{encoded};
-ghost use Rattle.project_machine.specs.Opening.{IsGivenBack, IsKeptOpen, IsLeftByOpening, IsOpened, freeing_bytes, with_freeing};
+ghost use Rattle.project_machine.specs.Opening.{IsFreeingDoubted, IsGivenBack, IsKeptOpen, IsLeftByOpening, IsOpened, with_freeing};
 ghost use Rattle.project_book.specs.Keeping.{TellsKeeper};
 ghost use Rattle.project_book.specs.Opening.{IsOnlyOpened, IsOpenRefusal, OpeningFailed, opened_keeper};
 
@@ -53,10 +53,11 @@ impl<K: Keeper> Book<K> {
         ensures freed { OnOk result (self.new.log ≡ with_freeing self.old.log) }
         ensures certain { OnOk result (K.doubt self.new.keeper ≡ None) }
         ensures same { OnErr result (self.new.log ≡ self.old.log) }
-        ensures doubt { OnErr result ((K.doubt self.new.keeper ≡ None) ⊎ (K.doubt self.new.keeper ≡ Some freeing_bytes)) }
+        ensures doubt { IfErr result (λ fault. (K.doubt self.new.keeper ≡ None) ⊎ IsFreeingDoubted (encoded self.old.log) (fault ≡ KeeperFault.Failed) (K.doubt self.new.keeper)) }
         ensures any_moment { (entries : List (List ℕ)) → K.kept self.old.keeper ≡ Some entries → LeavesOnly K.moment K.left_since self.old.keeper self.new.keeper (IsLeftByOpening entries) }
         ensures keeper { TellsKeeper K.faults K.faultless self.old.keeper self.new.keeper (IsErrOf result KeeperFault.Failed) }
     {
+        self.keeps();
         let mut steps = Steps::<G>::new(blank);
         let freeing = match self.freeing() {
             Ok(freeing) => freeing,
@@ -73,8 +74,9 @@ impl<K: Keeper> Book<K> {
 
     /// Opens a project again from the entries that its keeper has, as `Journal::open` gives them. Where some layer is
     /// out, all are freed, by one change more. A refusal gives the keeper back with the entries that it had. Behind
-    /// `Keeper` a stop may still leave the freeing, so the journal is to be opened anew from its file. Cost, read off the code and not measured: the bytes of the entries
-    /// and what each of the requests costs that made them.
+    /// `Keeper`, and there alone, a stop may still leave the freeing, so the journal is to be opened anew from its
+    /// file. Cost, read off the code and not measured: the bytes of the entries and what each of the requests costs
+    /// that made them.
     ///
     /// Entries that begin with a whole state, in place of a founding, are not read yet: `Memory` is answered.
     pub fn open(alloc: Global, keeper: K, entries: &[Bytes]) -> Result<Book<K>, (K, OpenFault)>
@@ -86,8 +88,8 @@ impl<K: Keeper> Book<K> {
         ensures kept { IfOk result (λ book. IsKeptOpen book.log (K.kept book.keeper) (K.doubt book.keeper)) }
         // The first entry that is at fault, or the keeper failed, or memory ran out.
         ensures refused { IfErr result (λ back. IsOpenRefusal entries.now back.1) }
-        ensures given_back { IfErr result (λ back. IsGivenBack entries.now (K.kept back.0) (K.doubt back.0)) }
-        // What a stop at any moment of the call leaves: the entries, alone or with a freeing.
+        ensures given_back { IfErr result (λ back. IsGivenBack entries.now (back.1 ≡ OpenFault.Keeper) (K.kept back.0) (K.doubt back.0)) }
+        // What a stop at any moment of the call leaves: the entries, alone or, where some layer is out, with a freeing.
         ensures any_moment { (told : List (List ℕ)) → K.kept keeper ≡ Some told → LeavesOnly K.moment K.left_since keeper (opened_keeper result) (IsLeftByOpening told) }
         // `Keeper` is answered only where the keeper counted a fault.
         ensures keeper { TellsKeeper K.faults K.faultless keeper (opened_keeper result) (OpeningFailed result) }

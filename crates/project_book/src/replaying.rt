@@ -2,10 +2,10 @@
 ghost use Rattle.std.specs.Prelude.{◌≡◌, ◌≢◌, ◌<◌, ◌≤◌, ℕ, List, [], ◌∷◌, IfErr, IfNone, IfOk, IfSome, OnOk, Some, false, length, slice_get, take, true};
 ghost use Rattle.std.specs.Arc.{arc_value};
 ghost use Rattle.project_machine.specs.Legal.{IsFounding};
-ghost use Rattle.project_machine.specs.Opening.{freeing_bytes};
+ghost use Rattle.project_machine.specs.Opening.{IsReplay, freeing_bytes};
 ghost use Rattle.project_entries.specs.Asking.{plain_asking};
 ghost use Rattle.project_book.specs.Founding.{founded};
-ghost use Rattle.project_book.specs.Replaying.{BeginsSo, IsAskedBy, IsAskingOf, IsFoundingBy, IsFreeing, IsMadeBy, IsNextKept, IsReading, IsReplay, IsReplayRefusal, IsTakenUp};
+ghost use Rattle.project_book.specs.Replaying.{BeginsSo, IsAskedBy, IsAskingOf, IsFoundingBy, IsFreeing, IsMadeBy, IsNextKept, IsReading, IsReplayRefusal, IsTakenUp};
 
 use crate::book::Book;
 use crate::founding::{Beginning, complete, founding_change, share};

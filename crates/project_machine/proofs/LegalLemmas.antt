@@ -110,6 +110,7 @@ legal_kept _ flawless (legal_founding conf level people is) = record {
   names = λ i j before within. absurd (omega arith);
   documents = none_all _;
   snapshots = none_all _;
+  taken = omega arith;
 }
 legal_kept _ flawless (legal_restored state sound) = sound.kept
 legal_kept _ flawless (legal_step log caller asked e l typed is) =

@@ -1,11 +1,11 @@
 -- What is kept of snapshots where one is taken, and where a curator decides.
-use Rattle.std.proofs.Common.{◌≡◌, ℕ, ◌-◌, ◌<◌, ◌≤◌, ◌||◌, Bool, true, false, not, List, [], ◌∷◌, length, map, set, get_or, bytes_eq, nat_lt, None, zero, suc, refl, sym, ◌∙◌, ap, subst, arith, inl, inr, count_by}
+use Rattle.std.proofs.Common.{◌≡◌, ℕ, ◌+◌, ◌-◌, ◌<◌, ◌≤◌, ◌||◌, Bool, true, false, not, List, [], ◌∷◌, ◌++◌, length, length-append, map, set, get_or, bytes_eq, nat_lt, None, zero, suc, refl, sym, ◌∙◌, ap, subst, arith, inl, inr, count_by}
 use Rattle.std.specs.List.{All, filter, list_any}
 use Rattle.std.specs.Option.{option_or}
 use Rattle.std.specs.List.Sorted.{IsStrictlySortedBy}
 use Rattle.std.specs.Ordering.{nat_cmp}
 use Rattle.std.specs.Cmp.Lexicographic.{slice_cmp}
-use Rattle.std.proofs.lemmas.List.{length-map, set_past}
+use Rattle.std.proofs.lemmas.List.{length-map, length-set, set_past}
 use Rattle.std.proofs.lemmas.List.Sums.{length-filter}
 use Rattle.std.proofs.lemmas.List.Elements.{All-push, All-set}
 use Rattle.std.proofs.lemmas.Bool.{cases_lt, ltb-false}
@@ -108,16 +108,19 @@ stays s t shot conf people documents k =
     snapshot_stays s t shot conf (ap (λ ps. map (λ (person : Person). person.name) (filter (λ (person : Person). not person.curator) ps)) people)
     (subst (λ ds. shot.doc < length ds) (sym documents) k.doc) (ap (λ ds. (get_or ds shot.doc no_document).text) documents) k
 
-pub snap_kept : (s : ProjectState) (by : List ℕ) (doc place : ℕ) → s.place ≤ place → IsKept s → doc < length s.documents → 2 ≤ length (finished_rows s doc) → IsKept (effect place (SnapshotTaken by doc) s)
+pub snap_kept : (s : ProjectState) (by : List ℕ) (doc place : ℕ) → s.place + 1 ≤ place → IsKept s → doc < length s.documents → 2 ≤ length (finished_rows s doc) → IsKept (effect place (SnapshotTaken by doc) s)
 snap_kept s by doc place h k within two =
     let t : ProjectState = effect place (SnapshotTaken by doc) s in
+    let taken : length s.snapshots ≤ s.place = k.taken in
+    let more : length (s.snapshots ++ new_snapshot s doc ∷ []) ≡ length s.snapshots + 1 = omega (arith, length-append s.snapshots (new_snapshot s doc ∷ [])) in
     record {
       founding = k.founding;
       few = k.few;
       total = k.total;
       names = k.names;
-      documents = documents_later s place h k;
+      documents = documents_later s place (omega arith) k;
       snapshots = All-push (IsSnapshotKept t) s.snapshots (new_snapshot s doc) (λ i d inside. stays s t (get_or s.snapshots i d) refl refl refl (k.snapshots i d inside)) (stays s t (new_snapshot s doc) refl refl refl (new_kept s doc k within two));
+      taken = omega arith;
     }
 
 -- ---- decisions
@@ -134,6 +137,8 @@ pub on_snapshot_kept : (s : ProjectState) (number place : ℕ) (changed : Snapsh
 on_snapshot_kept s number place changed h k keeps =
     let t : ProjectState = decided_at s number changed place in
     let old : All (IsSnapshotKept t) s.snapshots = λ i d inside. stays s t (get_or s.snapshots i d) refl refl refl (k.snapshots i d inside) in
+    let taken : length s.snapshots ≤ s.place = k.taken in
+    let size : length (set s.snapshots (number - 1) (changed (snapshot s number))) ≡ length s.snapshots = length-set s.snapshots (number - 1) (changed (snapshot s number)) in
     record {
       founding = k.founding;
       few = k.few;
@@ -144,6 +149,7 @@ on_snapshot_kept s number place changed h k keeps =
         | inl within ↦ All-set (IsSnapshotKept t) s.snapshots (number - 1) (changed (snapshot s number)) (stays s t (changed (snapshot s number)) refl refl refl (keeps (snapshot s number) (k.snapshots (number - 1) no_snapshot within))) old
         | inr past ↦ subst (All (IsSnapshotKept t)) (sym (set_past s.snapshots (number - 1) (changed (snapshot s number)) past)) old
       ];
+      taken = omega arith;
     }
 
 pub decide_kept : (s : ProjectState) (item : ItemId) (verdict : Verdict) (shot : Snapshot) → IsSnapshotKept s shot → IsSnapshotKept s (with_decision item verdict shot)

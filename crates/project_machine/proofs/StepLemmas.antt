@@ -24,6 +24,7 @@ pub set_kept : (s : ProjectState) (doc place : ℕ) (who : List ℕ) (changed : 
     → IsRowKept s.conf (document s doc).text place who (changed (row s doc who)) → IsKept (at (on_row s doc who changed) place)
 set_kept s doc place who changed h k is here =
     let size : length (on_row s doc who changed).documents ≡ length s.documents = length-set s.documents doc _ in
+    let taken : length s.snapshots ≤ s.place = k.taken in
     record {
       founding = k.founding;
       few = subst (λ n. n ≤ 4096) (sym size) k.few;
@@ -32,6 +33,7 @@ set_kept s doc place who changed h k is here =
       documents = set_documents s doc place who changed h k is here;
       snapshots = λ i d inside. snapshot_stays s (at (on_row s doc who changed) place) (get_or s.snapshots i d) refl refl
           (subst (λ n. (get_or s.snapshots i d).doc < n) (sym size) (k.snapshots i d inside).doc) (same_text s doc (get_or s.snapshots i d).doc who changed) (k.snapshots i d inside);
+      taken = omega arith;
     }
 
 -- ---- one more document
@@ -82,6 +84,7 @@ add_kept s by name text place h flawless k slug typed new room =
     let few : length s.documents < 4096 = leb-false 4096 (length s.documents) parts.0 in
     let total : sum (map (λ (d : Document). length d.text) s.documents) + length text ≤ 16777216 = ltb-false 16777216 (sum (map (λ (d : Document). length d.text) s.documents) + length text) parts.1 in
     let size : length (s.documents ++ new_document s name text ∷ []) ≡ length s.documents + 1 = omega (arith, length-append s.documents (new_document s name text ∷ [])) in
+    let taken : length s.snapshots ≤ s.place = k.taken in
     record {
       founding = k.founding;
       few = omega arith;
@@ -93,6 +96,7 @@ add_kept s by name text place h flawless k slug typed new room =
           let low : (get_or s.snapshots i d).doc < length s.documents = (k.snapshots i d inside).doc in
           snapshot_stays s (effect place (TextAdded by name text) s) (get_or s.snapshots i d) refl refl (omega arith)
           (ap (λ (one : Document). one.text) (get_or_append_left s.documents (new_document s name text ∷ []) no_document (get_or s.snapshots i d).doc low)) (k.snapshots i d inside);
+      taken = omega arith;
     }
 
 -- ---- all layers are freed
@@ -119,6 +123,7 @@ freed_text (d ∷ ds) (suc doc) = freed_text ds doc
 pub freed_kept : (s : ProjectState) (place : ℕ) → s.place ≤ place → IsKept s → IsKept (effect place AllFreed s)
 freed_kept s place h k =
     let size : length (map freed s.documents) ≡ length s.documents = length-map s.documents freed in
+    let taken : length s.snapshots ≤ s.place = k.taken in
     record {
       founding = k.founding;
       few = subst (λ n. n ≤ 4096) (sym size) k.few;
@@ -127,4 +132,5 @@ freed_kept s place h k =
       documents = All-map (IsDocumentKept s.conf (annotators s) place) freed s.documents (λ i d within. document_freed s place (get_or s.documents i d) (documents_later s place h k i d within));
       snapshots = λ i d inside. snapshot_stays s (effect place AllFreed s) (get_or s.snapshots i d) refl refl
           (subst (λ n. (get_or s.snapshots i d).doc < n) (sym size) (k.snapshots i d inside).doc) (freed_text s.documents (get_or s.snapshots i d).doc) (k.snapshots i d inside);
+      taken = omega arith;
     }

@@ -77,7 +77,7 @@ AreAccepted s = All (IsAccepted s) s.snapshots
 abbrev pub NamesDiffer : List (List ℕ) → Type 0
 NamesDiffer names = (i j : ℕ) → i < j → j < length names → get_or names i [] ≢ get_or names j []
 
--- a project as steps leave it: what it was founded with is such, and it has few documents, of different names and of few characters, and snapshots
+-- a project as steps leave it: what it was founded with is such, and it has few documents, of different names and of few characters, and snapshots, no more than its place, since each was taken by one change
 pub record IsKept (s : ProjectState) : Type 0 where
   pub founding : IsFounding s.conf s.level s.people
   pub few : length s.documents ≤ 4096
@@ -85,6 +85,7 @@ pub record IsKept (s : ProjectState) : Type 0 where
   pub names : NamesDiffer (map (λ d. d.name) s.documents)
   pub documents : All (IsDocumentKept s.conf (annotators s) s.place) s.documents
   pub snapshots : All (IsSnapshotKept s) s.snapshots
+  pub taken : length s.snapshots ≤ s.place
 
 -- a project as it can be restored: as steps leave it, with verdicts that are accepted and no layer out, and at a place within the limit
 pub record IsSound (s : ProjectState) : Type 0 where
