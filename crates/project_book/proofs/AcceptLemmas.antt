@@ -49,11 +49,11 @@ module _ (decide : AcceptedWithVerdict) (undecide : AcceptedWithoutVerdict) (und
 
   -- ---- a snapshot that is taken
 
-  new_accepted : (s : ProjectState) (by : List ℕ) (doc place : ℕ) → s.place ≤ place → IsKept s → doc < length s.documents → 2 ≤ length (finished_rows s doc) → IsAccepted s (new_snapshot s doc)
-  new_accepted s by doc place h k within two =
-      let t : ProjectState = effect place (SnapshotTaken by doc) s in
+  new_accepted : (s : ProjectState) (by : List ℕ) (doc : ℕ) → IsKept s → doc < length s.documents → 2 ≤ length (finished_rows s doc) → IsAccepted s (new_snapshot s doc)
+  new_accepted s by doc k within two =
+      let t : ProjectState = effect (s.place + 1) (SnapshotTaken by doc) s in
       let here : length s.snapshots < length (s.snapshots ++ new_snapshot s doc ∷ []) = omega (arith, length-append s.snapshots (new_snapshot s doc ∷ [])) in
-      let kept : IsSnapshotKept t (get_or t.snapshots (length s.snapshots) no_snapshot) = (snap_kept s by doc place h k within two).snapshots (length s.snapshots) no_snapshot here in
+      let kept : IsSnapshotKept t (get_or t.snapshots (length s.snapshots) no_snapshot) = (snap_kept s by doc (s.place + 1) (omega arith) k within two).snapshots (length s.snapshots) no_snapshot here in
       let new : IsSnapshotKept t (new_snapshot s doc) = subst (IsSnapshotKept t) (last_is s.snapshots (new_snapshot s doc)) kept in
       undecided s.conf (length (document s doc).text) (finished_rows s doc) (omega arith) (λ i d inside. (new.layers i d inside).typed.kept) (λ i d inside. (new.layers i d inside).obeys)
     where
@@ -113,7 +113,7 @@ module _ (decide : AcceptedWithVerdict) (undecide : AcceptedWithoutVerdict) (und
   change_accepted s caller (Snap name) e place h k are g =
       subst (λ x. AreAccepted (effect place x s)) (some_same (SnapshotTaken caller (number_of s name)) e g.made)
       (All-push (IsAccepted s) s.snapshots (new_snapshot s (number_of s name)) are
-      (new_accepted s caller (number_of s name) place h k (any_within (λ (d : Document). bytes_eq d.name name) s.documents (snap_there s caller name g.free)) (snap_enough s caller name g.free)))
+      (new_accepted s caller (number_of s name) k (any_within (λ (d : Document). bytes_eq d.name name) s.documents (snap_there s caller name g.free)) (snap_enough s caller name g.free)))
   change_accepted s caller (Decide number holder id verdict) e place h k are g =
       let shot : Snapshot = snapshot s number in
       let item : ItemId = item_in shot holder id in

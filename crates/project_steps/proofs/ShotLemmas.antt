@@ -235,7 +235,7 @@ pub finished_hold : (s : ProjectState) (doc : ℕ) → IsKept s → doc < length
 finished_hold s doc kept within two =
     let shot : Snapshot = new_snapshot s doc in
     let size : length (s.snapshots ++ shot ∷ []) ≡ length s.snapshots + 1 = length_push s.snapshots shot in
-    let there : IsSnapshotKept (effect s.place (SnapshotTaken [] doc) s) (get_or (s.snapshots ++ shot ∷ []) (length s.snapshots) no_snapshot) = (snap_kept s [] doc s.place (omega arith) kept within two).snapshots (length s.snapshots) no_snapshot (omega arith) in
+    let there : IsSnapshotKept (effect (s.place + 1) (SnapshotTaken [] doc) s) (get_or (s.snapshots ++ shot ∷ []) (length s.snapshots) no_snapshot) = (snap_kept s [] doc (s.place + 1) (omega arith) kept within two).snapshots (length s.snapshots) no_snapshot (omega arith) in
     subst (λ (one : Snapshot). AreHolders one.holders) (get_or_push s.snapshots shot no_snapshot (length s.snapshots) refl) there.holders
 
 -- the layers of a snapshot that steps leave are coherent
