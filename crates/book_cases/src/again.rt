@@ -1,5 +1,5 @@
 //! Projects that are opened again from what their keepers have, and the conversations that go on with them.
-use crate::keepers::talk_to;
+use crate::keepers::{entries_in, talk_to};
 use case_words::{Case, CaseFault, Report};
 use mark_base::{Bytes, Steps};
 use project_book::Book;
@@ -16,21 +16,32 @@ fn copied(alloc: Global, entries: &[Bytes]) -> Result<Vec<Bytes>, CaseFault> {
     Ok(copies)
 }
 
-/// Goes on with the conversation of a case, with a book that was opened again or was not.
+/// Goes on with the conversation of a case, with a book that was opened again, and gives its keeper and how many changes
+/// there are; nothing where the book was not opened.
 fn go_on<K: Keeper, G: Ledger>(
     alloc: Global,
     case: &Case<'_>,
     book: Option<Book<K>>,
     report: &mut Report,
     steps: &mut Steps<G>,
+) -> Result<Option<(K, usize)>, CaseFault> {
+    let Some(book) = book else {
+        report.tell(alloc, case.line, "the project is not opened")?;
+        return Ok(None);
+    };
+    Ok(Some(talk_to(alloc, case, "talk again", book, report, steps)?))
+}
+
+/// Compares what a keeper holds behind the conversation that went on.
+fn compare_kept(
+    alloc: Global,
+    case: &Case<'_>,
+    entries: &[Bytes],
+    changes: usize,
+    report: &mut Report,
 ) -> Result<(), CaseFault> {
-    match book {
-        Some(book) => {
-            let _ = talk_to(alloc, case, "talk again", book, report, steps)?;
-        }
-        None => report.tell(alloc, case.line, "the project is not opened")?,
-    }
-    Ok(())
+    let wanted = case.section("entries again").lines;
+    report.kept(alloc, entries, changes, wanted)
 }
 
 /// Goes on over a keeper in memory that has these entries.
@@ -44,7 +55,10 @@ pub(crate) fn again_over_memory<G: Ledger>(
     let entries = copied(alloc, entries)?;
     let keeper = MemoryKeeper::new(alloc, entries.clone()?, Vec::new(alloc));
     let book = Book::open(alloc, keeper, entries.as_slice()).ok();
-    go_on(alloc, case, book, report, steps)
+    let Some((keeper, changes)) = go_on(alloc, case, book, report, steps)? else {
+        return Ok(());
+    };
+    compare_kept(alloc, case, keeper.entries(), changes, report)
 }
 
 /// Goes on over the journal that a disk has.
@@ -62,5 +76,9 @@ pub(crate) fn again_over_journal<G: Ledger>(
         return Ok(());
     };
     let book = Book::open(alloc, journal, entries.as_slice()).ok();
-    go_on(alloc, case, book, report, steps)
+    let Some((keeper, changes)) = go_on(alloc, case, book, report, steps)? else {
+        return Ok(());
+    };
+    let kept = entries_in(alloc, &keeper.into_disk())?;
+    compare_kept(alloc, case, kept.as_slice(), changes, report)
 }

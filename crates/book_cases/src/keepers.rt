@@ -63,7 +63,7 @@ pub(crate) fn over_memory<G: Ledger>(
 }
 
 /// The entries in a file that a journal left.
-fn entries_in(alloc: Global, disk: &MemoryDisk) -> Result<Vec<Bytes>, CaseFault> {
+pub(crate) fn entries_in(alloc: Global, disk: &MemoryDisk) -> Result<Vec<Bytes>, CaseFault> {
     let bytes = Bytes::of(alloc, disk.bytes())?;
     let again = MemoryDisk::new(alloc, bytes, Vec::new(alloc));
     match Journal::open(alloc, again) {

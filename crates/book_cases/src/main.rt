@@ -11,10 +11,12 @@ ghost use Rattle.std.specs.Prelude.{◌≡◌, ◌<◌};
 mod again;
 mod failing;
 mod keepers;
+mod openings;
 mod talks;
 
 use crate::failing::{appends_fail, calls_fail};
 use crate::keepers::{over_journal, over_memory};
+use crate::openings::open_entries;
 use anyhow::{Context, Result};
 use case_words::{Case, CaseFault, Report, cases_of};
 use mark_base::Steps;
@@ -24,13 +26,17 @@ use std::process::ExitCode;
 use std::sync::ledger::{Blank, Ledger};
 use std::{env, fs, str};
 
-/// Has the conversation of a case over each keeper that it is for, and gives what differs.
+/// Has the conversation of a case over each keeper that it is for, or opens the entries that it gives; and gives what
+/// differs.
 fn run_case<G: Ledger>(
     alloc: Global,
     case: &Case<'_>,
     steps: &mut Steps<G>,
 ) -> Result<String, CaseFault> {
     let fails = case.numbers(alloc, "fails")?;
+    if case.has("open") {
+        return open_entries(alloc, case, fails, steps);
+    }
     let as_written = fails.is_empty();
     let mut report = Report::new(alloc, "memory");
     let Some(changes) = over_memory(alloc, case, fails, &mut report, steps)? else {
