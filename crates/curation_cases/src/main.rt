@@ -3,8 +3,8 @@
 //!
 //! The words name case files. A file begins with the sections `-- conf` and `-- text`; behind a line
 //! `== NAME` stands a case. It has a section `-- layer HOLDER` for each holder, in the order of their names, and
-//! then in any order `-- counterparts`, `-- contents`, `-- items`, `-- unanimous`, `-- decisions` and `-- curated`, each
-//! as the program writes it.
+//! then in any order `-- counterparts`, `-- contents`, `-- items`, `-- unanimous`, `-- decisions`, `-- curated` and
+//! `-- table`, each as the program writes it.
 //! Decisions are taken in their order, and a later section is told of all above it. What differs is printed,
 //! and the last line counts: `N passed, M failed`.
 #![tactic(auto)]
@@ -14,11 +14,13 @@ ghost use Rattle.unanimous_merge.specs.Rows.{AreCoherent};
 mod answers;
 mod contents;
 mod snapshots;
+mod table;
 mod texts;
 
 use crate::answers::{answers_text, curated_text};
 use crate::contents::{contents_text, counterparts_text};
 use crate::snapshots::{Ground, head_of, snapshot_of};
+use crate::table::table_text;
 use crate::texts::{items_text, unanimous_text};
 use anyhow::{Context, Error, Result};
 use curator_decisions::Decisions;
@@ -45,6 +47,7 @@ fn told(
         "contents" => contents_text(alloc, snapshot)?,
         "decisions" => answers_text(alloc, ground, snapshot, decisions, lines)?,
         "curated" => curated_text(alloc, ground, snapshot, decisions)?,
+        "table" => table_text(alloc, ground, snapshot, decisions)?,
         _ => return Ok(None),
     };
     Ok(Some(text))
