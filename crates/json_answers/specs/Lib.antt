@@ -1,0 +1,2 @@
+pub mod JsonAnswers
+pub mod Refusals
