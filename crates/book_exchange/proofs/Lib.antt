@@ -1,0 +1,4 @@
+mod CarriedLemmas
+mod OpenedLemmas
+mod PlanLemmas
+mod VisitedLemmas

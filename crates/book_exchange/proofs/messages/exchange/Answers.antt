@@ -1,0 +1,11 @@
+use Rattle.book_exchange.proofs.CarriedLemmas.{given_badge, given_legal, given_room}
+use Rattle.book_exchange.proofs.messages.exchange.Goals as goal
+
+pub returns-clause-legal : goal.returns-clause-legal
+returns-clause-legal g c = given_legal _ _ _ _ _ _ _ c.requires.legal c.at_path.ensures.served
+
+pub returns-clause-room : goal.returns-clause-room
+returns-clause-room g c = given_room _ _ _ _ _ _ _ c.at_path.ensures.served
+
+pub returns-clause-badge : goal.returns-clause-badge
+returns-clause-badge g c = given_badge _ _ _ _ _ _ _ c.at_path.ensures.served

@@ -1,0 +1,110 @@
+//! The routes of the desk that a connection holds.
+ghost use Rattle.std.specs.Prelude.{◌≡◌, ◌<◌, ◌≤◌, length};
+ghost use Rattle.project_machine.specs.Legal.{IsLegal};
+ghost use Rattle.book_exchange.specs.Connections.{Holds, connection_of, holding_of};
+ghost use Rattle.book_exchange.specs.Plans.{at_desk, on_desk};
+ghost use Rattle.book_exchange.specs.Exchanges.{IsCarriedOut, IsGiven, given_up};
+
+use crate::asking::{DeskAnswer, commit, park};
+use crate::connection::{Held, Start};
+use book_routes::DeskRoute;
+use desk_answers::{do_command, load_file, redo_last, show_lines, undo_last};
+use http_wire::Answer;
+use json_answers::MessageFault;
+use mark_base::{Memory, Slug, Steps};
+use project_book::Visitor;
+use std::alloc::Global;
+use std::sync::ledger::Ledger;
+
+/// What a desk answers on a route.
+fn on_desk<V: Visitor, G: Ledger>(
+    alloc: Global,
+    visitor: &mut V,
+    held: &mut Held,
+    route: DeskRoute,
+    body: &[u8],
+    steps: &mut Steps<G>,
+) -> DeskAnswer
+    requires room { 0 < (V.visiting visitor.old).room }
+    requires legal { IsLegal (V.visiting visitor.old).seen }
+    requires short { length body.now ≤ 4194304 }
+    ensures served { IsGiven result.answer (IsCarriedOut (on_desk (holding_of held.old) route body.now) (Holds (holding_of held.old)) (V.visiting visitor.old) (V.faultless visitor.old) (given_up result.leaves (Holds (holding_of held.new))) (V.visiting visitor.new)) }
+    ensures stays { V.faultless visitor.old → V.faultless visitor.new }
+{
+    match route {
+        DeskRoute::Show => {
+            let answer = show_lines(alloc, &held.desk, &held.text, &held.conf);
+            DeskAnswer {
+                answer,
+                leaves: false,
+            }
+        }
+        DeskRoute::Do => {
+            let answer = do_command(alloc, &mut held.desk, &held.conf, body);
+            DeskAnswer {
+                answer,
+                leaves: false,
+            }
+        }
+        DeskRoute::Undo => {
+            let answer = undo_last(alloc, &mut held.desk, &held.conf);
+            DeskAnswer {
+                answer,
+                leaves: false,
+            }
+        }
+        DeskRoute::Redo => {
+            let answer = redo_last(alloc, &mut held.desk, &held.conf);
+            DeskAnswer {
+                answer,
+                leaves: false,
+            }
+        }
+        DeskRoute::Load => {
+            let answer = load_file(alloc, &mut held.desk, &held.text, &held.conf, body);
+            DeskAnswer {
+                answer,
+                leaves: false,
+            }
+        }
+        DeskRoute::Commit => {
+            let answer = commit(alloc, visitor, held, steps);
+            DeskAnswer {
+                answer,
+                leaves: false,
+            }
+        }
+        DeskRoute::Park => park(alloc, visitor, held, steps),
+    }
+}
+
+/// A route of the desk, asked by a caller.
+pub(crate) fn at_desk<V: Visitor, G: Ledger>(
+    alloc: Global,
+    visitor: &mut V,
+    connection: &mut Start,
+    caller: &Slug,
+    route: DeskRoute,
+    body: &[u8],
+    steps: &mut Steps<G>,
+) -> Result<Answer, Memory>
+    requires room { 0 < (V.visiting visitor.old).room }
+    requires legal { IsLegal (V.visiting visitor.old).seen }
+    requires short { length body.now ≤ 4194304 }
+    ensures served { IsGiven result (IsCarriedOut (at_desk (connection_of connection.old) caller.now route body.now) (connection_of connection.old) (V.visiting visitor.old) (V.faultless visitor.old) (connection_of connection.new) (V.visiting visitor.new)) }
+    ensures stays { V.faultless visitor.old → V.faultless visitor.new }
+{
+    let done = match connection {
+        Start::Bare => return MessageFault::NoDesk.answer(alloc),
+        Start::Held(held) => {
+            if held.who.text() != caller.text() {
+                return MessageFault::NotYours.answer(alloc);
+            }
+            on_desk(alloc, visitor, held, route, body, steps)
+        }
+    };
+    if done.leaves {
+        *connection = Start::Bare;
+    }
+    done.answer
+}

@@ -1,0 +1,23 @@
+//! One message of a connection to a project, and its answer.
+//!
+//! [`serve_message`] tests a message, carries it out on the desk that the connection holds, or asks the project for its
+//! caller, and gives the answer:
+//!
+//! ```text
+//! let answer = serve_message(alloc, &mut visitor, &mut connection, &message, &mut steps)?;
+//! ```
+//!
+//! `specs/Plans.antt` has the tests of a message in their order and what it comes to, `specs/Exchanges.antt` what the
+//! connection holds behind the answer of the project.
+#![tactic(auto)]
+
+mod asking;
+mod connection;
+mod desk_routes;
+mod messages;
+mod worked_plans;
+
+pub use crate::asking::park_request;
+pub use crate::connection::{Held, Start};
+pub use crate::messages::{exchange, serve_message};
+pub use crate::worked_plans::{examples_of_asking_messages, examples_of_refused_messages};
