@@ -1,0 +1,3 @@
+mod FigureLemmas
+mod FitLemmas
+mod ShownLemmas
