@@ -9,3 +9,4 @@ mod EntryLemmas
 mod ReplayLemmas
 mod BegunLemmas
 mod OpeningLemmas
+mod PieceLemmas

@@ -25,6 +25,7 @@ use Rattle.project_entries.specs.declared.asking.Asking.{Asking}
 use Rattle.project_entries.specs.Asking.{CanBeNext, TellsRequest, plain_asking}
 use Rattle.project_entries.specs.declared.founding.Founding.{Founding}
 use Rattle.project_entries.specs.Founding.{IsFoundingOf, founded as told_founding}
+use Rattle.project_pieces.proofs.ConfLemmas.{ReadBack}
 use Rattle.project_state.specs.declared.act.Act.{Act}
 use Rattle.project_state.specs.declared.act.Act.TheVariants as act
 use Rattle.project_state.specs.declared.change.Change.TheVariants as change
@@ -35,7 +36,7 @@ use Rattle.project_steps.specs.Judging.{kept_happens}
 use Rattle.project_book.specs.Founding.{founded}
 use Rattle.project_book.specs.Replaying.{HasEntry, IsAskedBy, IsAskingOf, IsFoundingBy, IsFreeing, IsMadeBy, IsNextKept, IsNoBeginning, IsNoneNext, IsOnlyNext, IsReading, IsTakenUp}
 use Rattle.project_book.proofs.BookLemmas.{one_entry}
-use Rattle.project_book.proofs.EntryLemmas.{Goes, ReadBack, WrittenIsUtf8, by_freeing, by_request, founding_is, goes, next_is}
+use Rattle.project_book.proofs.EntryLemmas.{Goes, WrittenIsUtf8, by_freeing, by_request, founding_is, goes, next_is}
 
 -- ---- laws of entries and of requests
 

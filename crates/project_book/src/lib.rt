@@ -31,6 +31,7 @@ mod kept_already;
 mod laws;
 mod open_fault;
 mod opening;
+mod pieces;
 mod replaying;
 mod visitor;
 

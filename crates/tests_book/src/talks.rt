@@ -157,3 +157,26 @@ fn fail_once<L: Ledger, R: Abort>(rt: &R, alloc: Global, blank: Blank) -> Result
 fn a_change_that_is_not_kept_is_asked_anew(rt: HostRuntime) -> Result<(), Fail> {
     fail_once::<Brand, _>(&rt, rt.alloc(), Blank::new(1))
 }
+
+/// A project with one text has a first piece, one of the text, and the last.
+fn write<L: Ledger, R: Abort>(rt: &R, alloc: Global, blank: Blank) -> Result<(), Fail>
+    requires name { blank.name ≡ L.name }
+    requires parts { blank.parts ≡ L.parts }
+    requires some { 0 < L.parts }
+{
+    let mut steps = Steps::<L>::new(blank);
+    let mut book = found(alloc, Vec::new(alloc))?;
+    let tokens = tokens_in(add(alloc, &mut book, &mut steps)?);
+    assert_eq!(rt; tokens, Some(3));
+    if book.is_some_out() {
+        return Err(Fail::new("a layer is out"));
+    }
+    let pieces = book.pieces()?;
+    assert_eq!(rt; pieces.len(), 3);
+    Ok(())
+}
+
+#[test]
+fn the_state_of_a_project_is_written(rt: HostRuntime) -> Result<(), Fail> {
+    write::<Brand, _>(&rt, rt.alloc(), Blank::new(1))
+}
