@@ -1,5 +1,5 @@
 -- The pieces of a project are the entries of the history that begins with its state.
-use Rattle.std.proofs.Common.{◌≡◌, ℕ, ◌<◌, ◌≤◌, ◌^◌, false, cond, List, [], ◌∷◌, ◌++◌, map, refl, sym, ◌∙◌, ap, subst}
+use Rattle.std.proofs.Common.{◌≡◌, ℕ, ◌≤◌, ◌^◌, false, cond, List, [], ◌∷◌, ◌++◌, map, sym, ◌∙◌, ap, subst}
 use Rattle.entry_bytes.specs.Entries.{entry_bytes}
 use Rattle.project_machine.specs.ProjectState.{ProjectState, is_some_out}
 use Rattle.project_machine.specs.Requests.{Happened, AllFreed}

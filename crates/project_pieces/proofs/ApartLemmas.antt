@@ -1,7 +1,7 @@
 -- A state that can be restored is told by its pieces, and no history but those that go on from it begins with them.
-use Rattle.std.proofs.Common.{◌≡◌, ◌⊎◌, ℕ, ◌+◌, ◌<◌, ◌≤◌, ◌==◌, ◌||◌, Bool, true, false, cond, List, [], ◌∷◌, ◌++◌, length, map, get_or, Option, Some, None, is_some, zero, suc, refl, sym, ◌∙◌, ap, subst, arith, inl, inr, append_assoc, append-nil}
-use Rattle.std.specs.Prelude.{Result, Ok, chars, encode_utf8_all}
-use Rattle.std.specs.List.{All, AllByRecursion, enumerate_from, flat_map, list_any, zip}
+use Rattle.std.proofs.Common.{◌≡◌, ℕ, ◌+◌, ◌<◌, ◌==◌, Bool, true, false, cond, List, [], ◌∷◌, ◌++◌, length, map, get_or, Option, Some, None, is_some, zero, suc, refl, sym, ◌∙◌, ap, subst, arith, inl, inr, append_assoc, append-nil}
+use Rattle.std.specs.Prelude.{Result, Ok, chars}
+use Rattle.std.specs.List.{AllByRecursion, enumerate_from, flat_map, list_any}
 use Rattle.std.proofs.lemmas.Bool.{or_parts}
 use Rattle.std.proofs.lemmas.List.{length-map, same_lists}
 use Rattle.std.proofs.lemmas.List.Elements.{recursion_from_All}
@@ -11,19 +11,19 @@ use Rattle.annotation_conf.specs.Configurations.{Configuration}
 use Rattle.entry_bytes.specs.declared.entry.Entry.{Entry}
 use Rattle.entry_bytes.specs.declared.entry.Entry.TheVariants as entry
 use Rattle.entry_bytes.specs.declared.person.Person.{Person}
-use Rattle.entry_bytes.specs.Entries.{entry_bytes, IsEntry}
-use Rattle.project_machine.specs.Entries.{document_piece, encoded_text, entries_of, first_piece, flags_of, founding_entry, has_draft, is_committed, pieces_of, row_pieces, rows_pieces, snapshot_pieces}
-use Rattle.project_machine.specs.History.{after, effect, encoded, encoded_from, numbered_from, unfounded}
+use Rattle.entry_bytes.specs.Entries.{entry_bytes}
+use Rattle.project_machine.specs.Entries.{document_piece, first_piece, flags_of, founding_entry, has_draft, is_committed, pieces_of, row_pieces, rows_pieces, snapshot_pieces}
+use Rattle.project_machine.specs.History.{encoded}
 use Rattle.project_machine.specs.Legal.{IsDocumentKept, IsKept, IsLegal, IsRowKept, IsSnapshotKept, IsSound, legal_founding, legal_freeing, legal_restored, legal_step}
 use Rattle.project_machine.specs.Opening.{GoesOn, IsReplay, restored}
-use Rattle.project_machine.specs.ProjectState.{Row, Document, Snapshot, ProjectState, annotators, blank_row, document, is_some_out, no_document, no_snapshot, text_of}
+use Rattle.project_machine.specs.ProjectState.{Row, Document, Snapshot, ProjectState, annotators, document, is_some_out, no_document}
 use Rattle.project_machine.specs.Requests.{Happened, AllFreed, Founded, Restored}
-use Rattle.project_entries.proofs.AgainLemmas.{IsOfText, LoadsAreRead, ReadAgain, TypedAreRead}
+use Rattle.project_entries.proofs.AgainLemmas.{LoadsAreRead, ReadAgain, TypedAreRead}
 use Rattle.project_pieces.proofs.ConfLemmas.{ReadBack}
 use Rattle.project_pieces.proofs.PieceEntries.{WrittenIsUtf8, annotators_sorted, of_text, pieces_are}
 use Rattle.project_pieces.proofs.PieceFields.{sorted_differ}
 use Rattle.project_pieces.proofs.RunLemmas.{any_default}
-use Rattle.project_pieces.proofs.RunParts.{Differ, EachSame, GoesBeyond, OneIsFront, Shaped, ShotsSame, Starts, ToldApart, cell_shaped, documents_same, each_at, fronts_same, head_same, maps_at, one_is_front, rows_at, rows_of, shots_at, shots_same, tail_same}
+use Rattle.project_pieces.proofs.RunParts.{EachSame, GoesBeyond, OneIsFront, Shaped, ShotsSame, Starts, ToldApart, cell_shaped, documents_same, each_at, fronts_same, head_same, maps_at, one_is_front, rows_at, rows_of, shots_at, shots_same, tail_same}
 use Rattle.project_pieces.proofs.ValueLemmas.{AcceptedAreWritten, pieces_on, row_told, shot_told, shots_sized}
 
 -- the laws on which telling rests

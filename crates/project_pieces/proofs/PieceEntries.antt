@@ -1,6 +1,6 @@
 -- Each piece of a state that can be restored is an entry.
-use Rattle.std.proofs.Common.{◌≡◌, ℕ, ◌+◌, ◌<◌, ◌≤◌, ◌^◌, ◌||◌, Bool, true, false, not, cond, List, [], ◌∷◌, ◌++◌, length, map, get_or, bytes_eq, zero, suc, refl, sym, ◌∙◌, ap, subst, arith, IsUtf8, length-append}
-use Rattle.std.specs.List.{All, AllByRecursion, enumerate_from, filter, flat_map, list_any, zip}
+use Rattle.std.proofs.Common.{◌≡◌, ℕ, ◌+◌, ◌<◌, ◌≤◌, ◌^◌, ◌||◌, Bool, true, false, not, cond, List, [], ◌∷◌, ◌++◌, length, map, get_or, bytes_eq, refl, sym, ◌∙◌, ap, subst, arith, IsUtf8, length-append}
+use Rattle.std.specs.List.{AllByRecursion, enumerate_from, filter, flat_map, list_any, zip}
 use Rattle.std.specs.List.Sorted.{IsStrictlySortedBy}
 use Rattle.std.specs.Cmp.Lexicographic.{slice_cmp}
 use Rattle.std.specs.Ordering.{nat_cmp}
@@ -9,21 +9,19 @@ use Rattle.std.proofs.lemmas.List.FromFn.{get_or-enumerate_from, length-enumerat
 use Rattle.std.proofs.lemmas.Slice.Eq.{bytes_eq-Decides}
 use Rattle.std.proofs.lemmas.Slice.Zip.{get_or-zip}
 use Rattle.std.proofs.lemmas.Bool.{ltb-true}
-use Rattle.entry_bytes.specs.declared.entry.Entry.{Entry}
 use Rattle.entry_bytes.specs.declared.entry.Entry.TheVariants as entry
 use Rattle.entry_bytes.specs.declared.person.Person.{Person}
 use Rattle.entry_bytes.specs.Entries.{entry_bytes, IsEntry}
 use Rattle.entry_bytes.specs.Fields.{flag, slug_bytes, text_bytes, IsSlug, IsText}
 use Rattle.annotation_conf.specs.Configurations.{Configuration}
 use Rattle.annotation_conf.specs.ConfText.{conf_text}
-use Rattle.layer_core.specs.declared.command.Command.{Command}
-use Rattle.layer_model.specs.Annotations.{Annotations, no_marks}
+use Rattle.layer_model.specs.Annotations.{Annotations}
 use Rattle.ann_writer.specs.AnnOf.{ann_of}
 use Rattle.ann_writer.specs.Writable.{IsOfProgram}
 use Rattle.project_machine.specs.CommandBytes.{scripts_bytes}
 use Rattle.project_machine.specs.Entries.{IsShort, document_piece, first_piece, flags_of, has_draft, held_piece, is_committed, pieces_of, row_pieces, rows_pieces, snapshot_pieces}
-use Rattle.project_machine.specs.Legal.{IsDocumentKept, IsKept, IsRowKept, IsSnapshotKept, IsSound, LayerObeys}
-use Rattle.project_machine.specs.ProjectState.{Row, Document, Snapshot, ProjectState, annotators, blank_row, document, is_annotator, no_document, no_snapshot, text_of}
+use Rattle.project_machine.specs.Legal.{IsDocumentKept, IsKept, IsRowKept, IsSnapshotKept, IsSound}
+use Rattle.project_machine.specs.ProjectState.{Row, Document, Snapshot, ProjectState, annotators, document, no_document, text_of}
 use Rattle.project_machine.specs.Typed.{IsDocText, IsTypedLayer}
 use Rattle.project_machine.proofs.NameLemmas.{filtered_part, part_sorted}
 use Rattle.project_entries.proofs.AgainLemmas.{IsOfText}

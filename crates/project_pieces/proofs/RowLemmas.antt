@@ -1,11 +1,8 @@
 -- The rows of a project that is kept, and the layers that its snapshots hold.
-use Rattle.std.proofs.Common.{◌≡◌, ℕ, ◌+◌, ◌<◌, ◌≤◌, ◌||◌, Bool, true, false, not, List, [], ◌∷◌, length, map, get_or, nat_lt, slice_get, Option, Some, None, option_map, refl, sym, ◌∙◌, ap, subst, arith, zero, suc}
-use Rattle.std.specs.Option.{option_copied, option_map_or}
-use Rattle.std.proofs.lemmas.Option.{get_or_from_slice_get, slice_get-get_or, slice_get_past}
-use Rattle.layer_core.specs.WellFormed.{IsWellFormed}
-use Rattle.layer_model.specs.Annotations.{Annotations, no_marks}
-use Rattle.project_machine.specs.ProjectState.{Row, Document, Snapshot, ProjectState, annotators, blank_row, document, no_document, row_at, text_of}
-use Rattle.project_machine.specs.Legal.{IsDocumentKept, IsKept, IsRowKept, IsSnapshotKept}
+use Rattle.std.proofs.Common.{◌≡◌, ℕ, ◌<◌, List, length, get_or, slice_get, Some, None, refl, sym, ◌∙◌, ap, subst, arith}
+use Rattle.std.proofs.lemmas.Option.{slice_get-get_or}
+use Rattle.project_machine.specs.ProjectState.{Row, Document, ProjectState, annotators, blank_row, document, no_document, row_at}
+use Rattle.project_machine.specs.Legal.{IsKept, IsRowKept}
 
 -- there is a row for each annotator
 pub rows_many : (s : ProjectState) (doc : ℕ) (names : List (List ℕ)) → IsKept s → doc < length s.documents → names ≡ annotators s → length (document s doc).rows ≡ length names

@@ -1,5 +1,5 @@
 -- How a run of pieces grows.
-use Rattle.std.proofs.Common.{◌≡◌, ℕ, ◌+◌, ◌<◌, ◌≤◌, ◌==◌, Bool, true, false, List, [], ◌∷◌, ◌++◌, length, map, get_or, take, nat_lt, slice_get, Some, zero, suc, refl, sym, ◌∙◌, ap, subst, arith, append_assoc, append-nil, if◌then◌else◌}
+use Rattle.std.proofs.Common.{◌≡◌, ℕ, ◌+◌, ◌<◌, ◌≤◌, Bool, true, false, List, [], ◌∷◌, ◌++◌, length, map, get_or, take, nat_lt, slice_get, Some, zero, suc, refl, sym, ◌∙◌, ap, subst, arith, append_assoc, append-nil, if◌then◌else◌}
 use Rattle.std.specs.List.{All, flat_map, zip, enumerate_from}
 use Rattle.std.proofs.lemmas.Bool.{ltb-false}
 use Rattle.std.proofs.lemmas.List.{flat_map_more, map-append, take_all, take_more}
@@ -11,7 +11,6 @@ use Rattle.std.proofs.lemmas.List.Elements.{All-push}
 use Rattle.entry_bytes.specs.declared.entry.Entry.{Entry}
 use Rattle.entry_bytes.specs.Entries.{entry_bytes}
 use Rattle.project_journal.specs.Keeper.{IsEntry}
-use Rattle.project_entries.specs.declared.written.Written.{Written}
 use Rattle.project_entries.specs.declared.written.Written.TheVariants as written
 use Rattle.project_entries.specs.Writing.{written_of}
 

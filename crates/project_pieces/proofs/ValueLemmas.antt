@@ -1,7 +1,7 @@
 -- Rows and snapshots are told by their pieces.
-use Rattle.std.proofs.Common.{◌≡◌, ℕ, ◌+◌, ◌<◌, ◌≤◌, ◌^◌, Bool, true, false, cond, List, [], ◌∷◌, ◌++◌, length, map, get_or, nat_lt, Option, Some, None, zero, suc, refl, sym, ◌∙◌, ap, subst, arith, length-append}
+use Rattle.std.proofs.Common.{◌≡◌, ℕ, ◌+◌, ◌<◌, ◌≤◌, Bool, true, false, cond, List, [], ◌∷◌, ◌++◌, length, map, get_or, Option, Some, None, zero, suc, refl, sym, ◌∙◌, ap, subst, arith, length-append}
 use Rattle.std.specs.Prelude.{MatchOption, option_map}
-use Rattle.std.specs.List.{All, AllByRecursion, flat_map}
+use Rattle.std.specs.List.{AllByRecursion, flat_map}
 use Rattle.std.proofs.lemmas.Bool.{ltb-false}
 use Rattle.std.proofs.lemmas.List.{length-map, same_lists}
 use Rattle.mark_base.specs.declared.ann_id.AnnId.{AnnId}
@@ -12,10 +12,9 @@ use Rattle.entry_bytes.specs.declared.entry.Entry.{Entry}
 use Rattle.entry_bytes.specs.declared.entry.Entry.TheVariants as entry
 use Rattle.entry_bytes.specs.Fields.{flag, u32_bytes}
 use Rattle.annotation_conf.specs.Configurations.{Configuration}
-use Rattle.layer_model.specs.Annotations.{Annotations, no_marks}
+use Rattle.layer_model.specs.Annotations.{Annotations}
 use Rattle.layer_model.specs.Classes.{letter_place}
 use Rattle.layer_core.specs.declared.command.Command.{Command}
-use Rattle.layer_core.specs.WellFormed.{IsWellFormed}
 use Rattle.layer_undo.specs.Replays.{first_refusal}
 use Rattle.ann_writer.specs.AnnOf.{ann_of}
 use Rattle.unanimous_merge.specs.declared.item.ItemId.{ItemId}
@@ -28,7 +27,7 @@ use Rattle.project_machine.specs.CommandReading.{layer_in, scripts_of}
 use Rattle.project_machine.specs.Entries.{accepts, flags_of, has_draft, held_piece, is_committed, snapshot_pieces, verdict_bytes}
 use Rattle.project_machine.specs.Legal.{IsRowKept, IsSnapshotKept, LayerObeys}
 use Rattle.project_machine.specs.ProjectState.{Row, Snapshot, ProjectState, text_of}
-use Rattle.project_machine.specs.Typed.{AreCommands, IsTypedLayer}
+use Rattle.project_machine.specs.Typed.{AreCommands}
 use Rattle.project_entries.specs.Reading.{ReadsScripts}
 use Rattle.project_entries.proofs.AgainLemmas.{IsOfText, LoadsAreRead, ReadAgain, TypedAreRead, scripts_are}
 use Rattle.project_pieces.proofs.PieceEntries.{draft_long, held_long, of_program, row_short}

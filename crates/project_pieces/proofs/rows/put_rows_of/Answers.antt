@@ -1,8 +1,8 @@
-use Rattle.std.proofs.Common.{◌≡◌, ◌<◌, ℕ, List, ap, arith, length, map, get_or, subst, sym, ◌∙◌, ◌++◌}
+use Rattle.std.proofs.Common.{◌≡◌, ap, arith, length, map, sym, ◌∙◌, ◌++◌}
 use Rattle.std.specs.List.{flat_map, zip}
 use Rattle.entry_bytes.specs.Entries.{entry_bytes}
 use Rattle.project_machine.specs.Entries.{row_pieces}
-use Rattle.project_machine.specs.ProjectState.{annotators, blank_row, document, row_at}
+use Rattle.project_machine.specs.ProjectState.{blank_row, document, row_at}
 use Rattle.project_pieces.proofs.RowLemmas.{rows_many}
 use Rattle.project_pieces.proofs.RunLemmas.{get_or-same, told_paired, told_paired_more}
 use Rattle.project_pieces.proofs.rows.put_rows_of.Goals as goal

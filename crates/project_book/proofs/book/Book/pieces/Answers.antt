@@ -1,4 +1,4 @@
-use Rattle.std.proofs.Common.{◌≡◌, ◌≤◌, ◌^◌, ◌∙◌, ap, arith}
+use Rattle.std.proofs.Common.{◌≤◌, ◌^◌, ◌∙◌, ap, arith}
 use Rattle.project_machine.specs.History.{after}
 use Rattle.project_machine.specs.Legal.{IsSound}
 use Rattle.project_book.specs.Keeping.{BookValue}
