@@ -38,10 +38,7 @@ fn link_of(alloc: Global, sent: &[u8], pieces: Pieces) -> Result<MemoryLink, Cas
     if pieces == Pieces::Whole {
         return Ok(MemoryLink::new(alloc, bytes, Vec::new(alloc), Vec::new(alloc)));
     }
-    let mut sizes = Vec::new(alloc);
-    for _ in 0..sent.len() {
-        sizes.push(1)?;
-    }
+    let sizes = vec![in alloc; 1usize; sent.len()]?;
     Ok(MemoryLink::cut_into(alloc, bytes, sizes))
 }
 
