@@ -1,5 +1,5 @@
-//! Tests of `entry_bytes`, `project_journal` and `project_machine`: entries both ways, a disk that stops at each of its
-//! calls, files by their bytes, and rosters.
+//! Tests of `entry_bytes`, `project_journal`, `project_machine` and `roster_file`: entries both ways, a disk that stops at
+//! each of its calls, files by their bytes, and rosters.
 #![tactic(auto)]
 
 #[cfg(test)]

@@ -2,6 +2,7 @@
 use entry_bytes::Person;
 use mark_base::Slug;
 use project_machine::{Roster, RosterFault};
+use roster_file::{RosterRead, read_roster};
 use std::alloc::Global;
 use std::test::Fail;
 
@@ -85,6 +86,63 @@ fn people_stand_in_the_order_of_their_names(rt: HostRuntime) -> Result<(), Fail>
             Ok(text) => assert_eq!(rt; text.as_str(), sorted),
             Err(_) => return Err(Fail::new("refused")),
         }
+    }
+    Ok(())
+}
+
+/// What a file reads as: the names of its people in order, or the fault.
+fn read(alloc: Global, file: &[u8]) -> Result<Result<String, RosterRead>, Fail> {
+    if file.len() > 65_536 {
+        return Err(Fail::new("too long"));
+    }
+    match read_roster(alloc, file) {
+        Ok(roster) => Ok(Ok(shown(alloc, &roster)?)),
+        Err(fault) => Ok(Err(fault)),
+    }
+}
+
+#[test]
+fn the_people_of_a_file_stand_in_the_order_of_their_names(rt: HostRuntime) -> Result<(), Fail> {
+    let files = [
+        "ann,annotator\nbob,annotator\ncid,annotator\ncur,curator\n",
+        "\u{FEFF}cur,curator\r\n\r\n\"cid\",annotator\nbob,annotator\nann,\"annotator\"",
+    ];
+    for file in files {
+        match read(rt.alloc(), file.as_bytes())? {
+            Ok(text) => assert_eq!(rt; text.as_str(), " ann bob cid cur"),
+            Err(_) => return Err(Fail::new("refused")),
+        }
+    }
+    Ok(())
+}
+
+#[test]
+fn the_first_row_at_fault_is_told(rt: HostRuntime) -> Result<(), Fail> {
+    let files = [
+        (
+            b"ann,annotator\nbob,boss\n".as_slice(),
+            RosterRead::BadRole(2),
+        ),
+        (
+            b"ann,annotator\nbob\n.cid,boss\n".as_slice(),
+            RosterRead::BadRow(2),
+        ),
+        (b"ann,annotator,\n".as_slice(), RosterRead::BadRow(1)),
+        (b"\xFF,annotator\n".as_slice(), RosterRead::BadRow(1)),
+        (b" ann,annotator\n".as_slice(), RosterRead::BadName(1)),
+        (b"ann, annotator\n".as_slice(), RosterRead::BadRole(1)),
+        (
+            b"ann,annotator\n".as_slice(),
+            RosterRead::Roster(RosterFault::Lacking),
+        ),
+        (
+            b"ann,annotator\nann,curator\n".as_slice(),
+            RosterRead::Roster(RosterFault::NameTwice(2)),
+        ),
+        (b"".as_slice(), RosterRead::Roster(RosterFault::Lacking)),
+    ];
+    for (file, fault) in files {
+        assert_eq!(rt; read(rt.alloc(), file)?, Err(fault));
     }
     Ok(())
 }

@@ -1,0 +1,4 @@
+pub mod NamedDisks
+pub mod NameLaws
+pub mod MemoryNames
+pub mod MemoryCalls
