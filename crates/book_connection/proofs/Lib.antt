@@ -1,3 +1,5 @@
 mod FaultLemmas
 mod HistoryLemmas
+mod ParkLemmas
 mod SessionLemmas
+mod TalkLemmas

@@ -1,5 +1,6 @@
 -- How a connection goes on by one message, and how it ends.
-use Rattle.std.proofs.Common.{◌≡◌, ℕ, ◌+◌, ◌<◌, ◌⊎◌, List, [], ◌∷◌, ◌++◌, length, Option, Some, None, Result, Ok, Err, suc, Bool, true, false, refl, sym, subst, append_assoc, append-nil, arith, inl, inr, lit<}
+use Rattle.std.proofs.Common.{◌≡◌, ◌≢◌, ℕ, ◌+◌, ◌<◌, ◌==◌, ◌⊎◌, List, [], ◌∷◌, ◌++◌, length, Option, Some, None, Result, Ok, Err, suc, Bool, true, false, refl, sym, ◌∙◌, ap, subst, append_assoc, append-nil, arith, inl, inr, lit<, if◌then◌else◌}
+use Rattle.std.proofs.lemmas.Bool.{eqb-true, eqb-false}
 use Rattle.std.proofs.lemmas.List.{length-append}
 use Rattle.std.proofs.KnownBytes.{Appends-trans, Appends-nil}
 use Rattle.std.specs.Prelude.{IfSome}
@@ -14,8 +15,10 @@ use Rattle.http_wire.specs.Answers.{answer_bytes_of, stop_answer, unable}
 use Rattle.http_wire.specs.Inbox.{TakesMessage, StopsAsDefined}
 use Rattle.http_wire.specs.Messages.{ReadsMessage, StopsWith}
 use Rattle.book_exchange.specs.Exchanges.{IsExchange}
-use Rattle.book_connection.specs.Steps.{Given, Serving, Step, place_of}
-use Rattle.book_connection.specs.Session.{AnswerEnds, IfTold, Lacks, Refused, RefusalEnds, Run, SendEnds, Served, SessionEnds, SessionTold, Stepped, StopEnds, Stopped, Takes, TakesKnown, UnableEnds, bytes_from, bytes_of, is_last_answer, owed}
+use Rattle.project_machine.specs.Asking.{Visiting}
+use Rattle.book_exchange.specs.Connections.{Connection, Bare, Holds}
+use Rattle.book_connection.specs.Steps.{Given, IsLastPark, Serving, Step, place_of, serving}
+use Rattle.book_connection.specs.Session.{AnswerEnds, ConnectionTold, IfTold, Lacks, Refused, RefusalEnds, Run, SendEnds, Served, SessionEnds, SessionTold, Stepped, StopAnswered, StopEnds, Stopped, Takes, TakesKnown, UnableEnds, bytes_from, bytes_of, is_last_answer, owed}
 use Rattle.book_connection.specs.declared.ending.Ending.{Ending}
 use Rattle.book_connection.specs.declared.ending.Ending.TheVariants as ending
 
@@ -34,7 +37,7 @@ takes_known_more (Some bytes) None now messages message p q = absurd p
 takes_known_more (Some bytes) (Some middle) None messages message p q = absurd q
 takes_known_more (Some bytes) (Some middle) (Some rest) messages message p q = takes_more bytes middle rest messages message p q
 
-run_more : (old middle new : Serving) (messages : List Message) (answers : List Given) (message : Message) (given : Given)
+pub run_more : (old middle new : Serving) (messages : List Message) (answers : List Given) (message : Message) (given : Given)
     → Run old messages answers middle → Step middle message given new → Run old (messages ++ message ∷ []) (answers ++ given ∷ []) new
 run_more old middle new [] [] message given e step = (new, rw (← e) step, refl)
 run_more old middle new (first ∷ messages) (reply ∷ answers) message given run step =
@@ -58,7 +61,7 @@ none_first p first xs more true e before rest = let no : true ≡ false = (rw e 
 none_first p first xs more false e before rest = rw e (rest (rw e at before))
 
 -- one more of which it does not hold
-none_more : {X : Type 0} (p : X → Bool) (xs : List X) (x : X) → list_any p xs ≡ false → p x ≡ false → list_any p (xs ++ x ∷ []) ≡ false
+pub none_more : {X : Type 0} (p : X → Bool) (xs : List X) (x : X) → list_any p xs ≡ false → p x ≡ false → list_any p (xs ++ x ∷ []) ≡ false
 none_more p [] x before is = rw is refl
 none_more p (first ∷ xs) x before is = none_first p first xs (xs ++ x ∷ []) (p first) refl before (λ e. none_more p xs x e is)
 
@@ -78,7 +81,7 @@ served_more faultless old middle new count left between now before sent written 
       rw (bytes_more 0 old middle served.messages served.answers message told.given served.run, e) (Appends-trans before sent written _ _ served.bytes told.sends);
   number = simp length-append (omega (arith, served.number));
   few = few;
-  quiet = λ f. none_more (λ (g : Given). g.failed) served.answers told.given (served.quiet f) (told.kept f);
+  quiet = λ f. (none_more (λ (g : Given). g.failed) served.answers told.given (served.quiet f).0 (told.kept f).0, (told.kept f).1 ∙ (served.quiet f).1);
 }
 
 -- ---- how a connection begins
@@ -93,7 +96,7 @@ served_none faultless start left before = record {
   bytes = Appends-nil before;
   number = refl;
   few = lit< tt;
-  quiet = λ f. refl;
+  quiet = λ f. (refl, refl);
 }
   where
     takes_none : (left : Option (List ℕ)) → TakesKnown left [] (prepend_known [] left)
@@ -119,6 +122,7 @@ pub session_unable : (faultless : Type 0) (start : Serving) (left before written
 session_unable faultless start left before written end told = record {
   held = [];
   ends = unable_ends faultless start start left [] left before before written end (inl (0, served_none faultless start left before)) told;
+  still = λ f. refl;
 }
 
 -- ---- how it ends by an answer
@@ -155,6 +159,7 @@ session_cut faultless old middle new count left between now before sent written 
   ends =
       cut_by faultless old new left held now before sent written end
       (stepped_by faultless old middle new count left between (prepend_known held now) before sent written message (Err end) served takes told) told.sends;
+  still = λ f. (told.kept f).1 ∙ (served.quiet f).1;
 }
 
 -- by the 1,000,000th answer
@@ -163,7 +168,7 @@ pub session_spent : (faultless : Type 0) (old middle new : Serving) (count : ℕ
     → AnswerEnds faultless middle message new sent written count (Ok tt) → count + 1 ≡ 1000000 → SessionTold faultless old new left now before written ending.Spent
 session_spent faultless old middle new count left between now before sent written held message served takes told all = record {
   held = held;
-  ends = (
+  ends = inl (
     record {
       sent = sent;
       stepped = stepped_by faultless old middle new count left between (prepend_known held now) before sent written message (Ok tt) served takes told;
@@ -171,6 +176,7 @@ session_spent faultless old middle new count left between now before sent writte
     },
     all,
   );
+  still = λ f. (told.kept f).1 ∙ (served.quiet f).1;
 }
 
 -- by a message that asks to close
@@ -189,6 +195,7 @@ session_closed faultless old middle new count left between now before sent writt
     last,
     few,
   );
+  still = λ f. (told.kept f).1 ∙ (served.quiet f).1;
 }
 
 -- ---- how it ends by a stop
@@ -220,7 +227,7 @@ told_kept (Some bytes) None now messages P takes same p = absurd takes
 told_kept (Some bytes) (Some middle) None messages P takes same p = absurd same
 told_kept (Some bytes) (Some middle) (Some rest) messages P takes same p = rw same p
 
-stopped_by : (faultless : Type 0) (old new : Serving) (count : ℕ) (left between now before written : Option (List ℕ)) (why : Stop)
+abbrev stopped_by : (faultless : Type 0) (old new : Serving) (count : ℕ) (left between now before written : Option (List ℕ)) (why : Stop)
     → Served faultless old new left between before written count → Keeps between now → IfSome between (λ bytes. StopsWith bytes why)
     → Stopped faultless old new left now before written why
 stopped_by faultless old new count left between now before written why served same stops = record {
@@ -229,13 +236,26 @@ stopped_by faultless old new count left between now before written why served sa
   stops = told_kept left between now served.messages (λ bytes. StopsWith bytes why) served.takes same stops;
 }
 
+-- by the answer to a stop, which was written whole
+whole_ends : (faultless : Type 0) (old new : Serving) (left : Option (List ℕ)) (held : List ℕ) (now before written : Option (List ℕ)) (why : Stop) (named end : Ending) (b : Bool)
+    (s : StopAnswered faultless old new left (prepend_known held now) before written why)
+    → (s.refuses.stopped.count + 1 == 1000000) ≡ b
+    → (Refused faultless old new left (prepend_known held now) before written why → SessionEnds faultless old new left held now before written named)
+    → end ≡ (if b then ending.Spent else named) → SessionEnds faultless old new left held now before written end
+whole_ends faultless old new left held now before written why named end true s all as_named is = rw is (inr (why, s, eqb-true _ _ all))
+whole_ends faultless old new left held now before written why named end false s few as_named is =
+    let other : s.refuses.stopped.count + 1 ≢ 1000000 = eqb-false _ _ few in
+    rw is (as_named (s, omega (arith, s.refuses.stopped.served.few, other)))
+
 -- by a stop that is answered
 refused_ends : (faultless : Type 0) (old new : Serving) (left : Option (List ℕ)) (held : List ℕ) (now before sent written : Option (List ℕ)) (why : Stop) (answer : Answer) (named end : Ending)
-    → Stopped faultless old new left (prepend_known held now) before sent why → stop_answer why ≡ Some answer
+    (stopped : Stopped faultless old new left (prepend_known held now) before sent why)
+    → stop_answer why ≡ Some answer
     → (Refused faultless old new left (prepend_known held now) before written why → SessionEnds faultless old new left held now before written named)
-    → RefusalEnds (place_of new) answer named sent written end → SessionEnds faultless old new left held now before written end
+    → RefusalEnds stopped.count (place_of new) answer named sent written end → SessionEnds faultless old new left held now before written end
 refused_ends faultless old new left held now before sent written why answer named end stopped answers as_named (Ok done, whole, is) =
-    rw is (as_named record { sent = sent; refuses = record { stopped = stopped; answer = answer; answers = answers }; bytes = whole })
+    whole_ends faultless old new left held now before written why named end (stopped.count + 1 == 1000000)
+    record { sent = sent; refuses = record { stopped = stopped; answer = answer; answers = answers }; bytes = whole } refl as_named is
 refused_ends faultless old new left held now before sent written why answer named end stopped answers as_named (Err broken, inl (fault, front), is) =
     rw (is, fault) record {
       sent = sent;
@@ -248,48 +268,56 @@ refused_ends faultless old new left held now before sent written why answer name
 
 pub session_stops : (faultless : Type 0) (old new : Serving) (count : ℕ) (left between now before sent written : Option (List ℕ)) (held : List ℕ) (why : Stop) (end : Ending)
     → Served faultless old new left between before sent count → Keeps between (prepend_known held now) → StopsAsDefined between held now why
-    → StopEnds (place_of new) why sent written end → SessionTold faultless old new left now before written end
+    → StopEnds count (place_of new) why sent written end → SessionTold faultless old new left now before written end
 session_stops faultless old new count left between now before sent written held stop.End end served same stops ends = record {
   held = held;
   ends = rw (ends.0, ends.1) (stopped_by faultless old new count left between (prepend_known held now) before sent stop.End served same stops.0, stops.1);
+  still = λ f. (served.quiet f).1;
 }
 session_stops faultless old new count left between now before sent written held stop.Cut end served same stops ends = record {
   held = held;
   ends = rw (ends.0, ends.1) (stopped_by faultless old new count left between (prepend_known held now) before sent stop.Cut served same stops.0, stops.1);
+  still = λ f. (served.quiet f).1;
 }
 session_stops faultless old new count left between now before sent written held stop.BadHead end served same stops ends = record {
   held = held;
   ends =
       refused_ends faultless old new left held now before sent written stop.BadHead _ ending.BadHead end
       (stopped_by faultless old new count left between (prepend_known held now) before sent stop.BadHead served same stops) refl (λ r. r) ends;
+  still = λ f. (served.quiet f).1;
 }
 session_stops faultless old new count left between now before sent written held stop.TooLarge end served same stops ends = record {
   held = held;
   ends =
       refused_ends faultless old new left held now before sent written stop.TooLarge _ ending.TooLarge end
       (stopped_by faultless old new count left between (prepend_known held now) before sent stop.TooLarge served same stops) refl (λ r. r) ends;
+  still = λ f. (served.quiet f).1;
 }
 session_stops faultless old new count left between now before sent written held stop.Encoded end served same stops ends = record {
   held = held;
   ends =
       refused_ends faultless old new left held now before sent written stop.Encoded _ ending.Encoded end
       (stopped_by faultless old new count left between (prepend_known held now) before sent stop.Encoded served same stops) refl (λ r. r) ends;
+  still = λ f. (served.quiet f).1;
 }
 session_stops faultless old new count left between now before sent written held stop.NeedsLength end served same stops ends = record {
   held = held;
   ends =
       refused_ends faultless old new left held now before sent written stop.NeedsLength _ ending.NeedsLength end
       (stopped_by faultless old new count left between (prepend_known held now) before sent stop.NeedsLength served same stops) refl (λ r. r) ends;
+  still = λ f. (served.quiet f).1;
 }
 session_stops faultless old new count left between now before sent written held stop.ReadFault end served same stops ends = record {
   held = held;
   ends = rw (ends.0, ends.1) (count, served_kept faultless old new count left between (prepend_known held now) before sent served same, stops);
+  still = λ f. (served.quiet f).1;
 }
 session_stops faultless old new count left between now before sent written held stop.Memory end served same stops ends = record {
   held = held;
   ends =
       unable_ends faultless old new left held now before sent written end
       (inl (count, served_kept faultless old new count left between (prepend_known held now) before sent served same)) ends;
+  still = λ f. (served.quiet f).1;
 }
 
 -- ---- one answer, at the place of the visitor
@@ -301,7 +329,7 @@ pub answered_ends : (faultless : Type 0) (old new : Serving) (message : Message)
 answered_ends faultless old new message answer sent written n place last result done at is told = record {
   given = record { answer = answer; place = place_of new; failed = done.failed };
   step = record { carried = done.carried; place = refl; cause = done.cause };
-  kept = λ f. (done.quiet f).0;
+  kept = done.quiet;
   sends =
       subst (λ (b : Bool). SendEnds (place_of new) (answer_bytes_of answer (place_of new) b) sent written result) is
       (subst (λ (k : ℕ). SendEnds k (answer_bytes_of answer k last) sent written result) at told);
@@ -314,7 +342,7 @@ pub lacking_ends : (faultless : Type 0) (old new : Serving) (message : Message) 
 lacking_ends faultless old new message sent written n place end (answer, done) at told = record {
   given = record { answer = answer; place = place_of new; failed = done.failed };
   step = record { carried = done.carried; place = refl; cause = done.cause };
-  kept = λ f. (done.quiet f).0;
+  kept = done.quiet;
   sends = inr (subst (λ (k : ℕ). UnableEnds k sent written end) at told);
 }
 
@@ -326,5 +354,32 @@ answers_for first now old new message sent written n result stays told = record 
 pub unable_at : (place n : ℕ) (sent written : Option (List ℕ)) (end : Ending) → place ≡ n → UnableEnds place sent written end → UnableEnds n sent written end
 unable_at place n sent written end e told = subst (λ (k : ℕ). UnableEnds k sent written end) e told
 
-pub stops_at : (place n : ℕ) (why : Stop) (sent written : Option (List ℕ)) (end : Ending) → place ≡ n → StopEnds place why sent written end → StopEnds n why sent written end
-stops_at place n why sent written end e told = subst (λ (k : ℕ). StopEnds k why sent written end) e told
+pub stops_at : (count place n : ℕ) (why : Stop) (sent written : Option (List ℕ)) (end : Ending) → place ≡ n → StopEnds count place why sent written end → StopEnds count n why sent written end
+stops_at count place n why sent written end e told = subst (λ (k : ℕ). StopEnds count k why sent written end) e told
+
+-- ---- the last park
+
+-- where no fault can come before the messages, none can come in the last park
+pub park_for : (first now : Type 0) (c : Connection) (old new : Visiting) → (first → now) → IsLastPark now c old new → IsLastPark first c old new
+park_for first now Bare old new stays same = same
+park_for first now (Holds held) old new stays (inl same) = inl same
+park_for first now (Holds held) old new stays (inr (answered, visited, quiet)) = inr (answered, visited, λ f. quiet (stays f))
+
+-- where none can come, it leaves the count of faults
+pub park_still : (faultless : Type 0) (c : Connection) (old new : Visiting) → IsLastPark faultless c old new → faultless → new.faults ≡ old.faults
+park_still faultless Bare old new same f = ap (λ (v : Visiting). v.faults) same
+park_still faultless (Holds held) old new (inl same) f = ap (λ (v : Visiting). v.faults) same
+park_still faultless (Holds held) old new (inr (answered, visited, quiet)) f = (quiet f).0
+
+-- the messages of a connection and its last park
+pub connection_told : (faultless now : Type 0) (start : Connection) (old : Visiting) (behind : Serving) (new : Visiting) (left rest before written : Option (List ℕ)) (end : Ending)
+    → (faultless → now) → SessionTold faultless (serving start old) behind left rest before written end → IsLastPark now behind.connection behind.visiting new
+    → ConnectionTold faultless start old new left rest before written end
+connection_told faultless now start old behind new left rest before written end stays session parked =
+    let last : IsLastPark faultless behind.connection behind.visiting new = park_for faultless now behind.connection behind.visiting new stays parked in
+    record {
+      behind = behind;
+      session = session;
+      parked = last;
+      still = λ f. park_still faultless behind.connection behind.visiting new last f ∙ session.still f;
+    }

@@ -1,3 +1,4 @@
 pub mod Steps
 pub mod Session
+pub mod Talk
 pub mod OneHistory

@@ -1,5 +1,5 @@
 -- A whole connection: the messages taken, their answers at places of one history, and how it ended.
-use Rattle.std.specs.Prelude.{◌≡◌, ℕ, ◌+◌, ◌<◌, ◌⊎◌, ◌==◌, ◌||◌, Bool, true, false, Result, Ok, Err, List, [], ◌∷◌, ◌++◌, length, Option, Some, None, IfSome, codes, ⊤}
+use Rattle.std.specs.Prelude.{◌≡◌, ℕ, ◌+◌, ◌<◌, ◌⊎◌, ◌==◌, ◌||◌, Bool, true, false, Result, Ok, Err, List, [], ◌∷◌, ◌++◌, length, Option, Some, None, IfSome, codes, if◌then◌else◌, ⊤}
 use Rattle.std.specs.List.{list_any}
 use Rattle.std.specs.Io.KnownBytes.{Appends, IsAtEnd, prepend_known}
 use Rattle.mark_base.specs.Streams.{AppendsFront}
@@ -54,7 +54,7 @@ bytes_from n (message ∷ messages) (given ∷ answers) = bytes_of n message giv
 
 -- ---- how far a connection has come
 
--- so many messages were taken, none of which asked for the end, and all of them were answered whole
+-- so many messages were taken, none of which asked for the end, and all of them were answered whole; where no fault of the keeper can come, no answer says that it failed, and the count of faults stands
 pub record Served (faultless : Type 0) (old new : Serving) (left now : Option (List ℕ)) (before written : Option (List ℕ)) (count : ℕ) : Type 0 where
   pub messages : List Message
   pub answers : List Given
@@ -64,7 +64,7 @@ pub record Served (faultless : Type 0) (old new : Serving) (left now : Option (L
   pub bytes : Appends before written (bytes_from 0 messages answers)
   pub number : length messages ≡ count
   pub few : count < 1000000
-  pub quiet : faultless → list_any (λ given. given.failed) answers ≡ false
+  pub quiet : faultless → (list_any (λ given. given.failed) answers ≡ false) × (new.visiting.faults ≡ old.visiting.faults)
 
 -- and one more message was taken
 pub record Taken (faultless : Type 0) (old new : Serving) (left now : Option (List ℕ)) (before written : Option (List ℕ)) : Type 0 where
@@ -80,7 +80,7 @@ pub record Stepped (faultless : Type 0) (old new : Serving) (left now : Option (
   pub taken : Taken faultless old middle left now before written
   pub given : Given
   pub step : Step middle taken.message given new
-  pub kept : faultless → given.failed ≡ false
+  pub kept : faultless → (given.failed ≡ false) × (new.visiting.faults ≡ middle.visiting.faults)
 
 -- the bytes of the answer to that message
 abbrev pub owed : {faultless : Type 0} {old new : Serving} {left now before written : Option (List ℕ)} → Stepped faultless old new left now before written → List ℕ
@@ -118,16 +118,26 @@ Owes faultless old new left now before written piece =
     ⊎ (Lacks faultless old new left now before written × (piece ≡ unable (place_of new))))
 
 -- the answer to a stop was written whole
-pub record Refused (faultless : Type 0) (old new : Serving) (left now : Option (List ℕ)) (before written : Option (List ℕ)) (why : Stop) : Type 0 where
+pub record StopAnswered (faultless : Type 0) (old new : Serving) (left now : Option (List ℕ)) (before written : Option (List ℕ)) (why : Stop) : Type 0 where
   pub sent : Option (List ℕ)
   pub refuses : Refuses faultless old new left now before sent why
   pub bytes : Appends sent written (answer_bytes_of refuses.answer (place_of new) true)
+
+-- the answer to a stop was written whole, and it is not the 1,000,000th
+abbrev pub Refused : (faultless : Type 0) (old new : Serving) (left now : Option (List ℕ)) (before written : Option (List ℕ)) → Stop → Type 0
+Refused faultless old new left now before written why = (s : StopAnswered faultless old new left now before written why) × (s.refuses.stopped.count + 1 < 1000000)
 
 -- an answer was written whole, and it is the last one
 pub record AnsweredLast (faultless : Type 0) (old new : Serving) (left now : Option (List ℕ)) (before written : Option (List ℕ)) : Type 0 where
   pub sent : Option (List ℕ)
   pub stepped : Stepped faultless old new left now before sent
   pub bytes : Appends sent written (owed stepped)
+
+-- the 1,000,000th answer was written whole: to a message, or to a stop
+abbrev pub AllAnswered : (faultless : Type 0) (old new : Serving) (left now : Option (List ℕ)) (before written : Option (List ℕ)) → Type 0
+AllAnswered faultless old new left now before written =
+    ((a : AnsweredLast faultless old new left now before written) × (a.stepped.taken.count + 1 ≡ 1000000))
+    ⊎ ((why : Stop) × (s : StopAnswered faultless old new left now before written why) × (s.refuses.stopped.count + 1 ≡ 1000000))
 
 -- a front of what was owed was written
 pub record BrokenOff (faultless : Type 0) (old new : Serving) (left now : Option (List ℕ)) (before written : Option (List ℕ)) : Type 0 where
@@ -148,24 +158,25 @@ SessionEnds faultless old new left held now before written ending.TooLarge = Ref
 SessionEnds faultless old new left held now before written ending.Encoded = Refused faultless old new left (prepend_known held now) before written stop.Encoded
 SessionEnds faultless old new left held now before written ending.Closed = (a : AnsweredLast faultless old new left (prepend_known held now) before written)
     × (a.stepped.taken.message.last ≡ true) × (a.stepped.taken.count + 1 < 1000000)
-SessionEnds faultless old new left held now before written ending.Spent = (a : AnsweredLast faultless old new left (prepend_known held now) before written)
-    × (a.stepped.taken.count + 1 ≡ 1000000)
+SessionEnds faultless old new left held now before written ending.Spent = AllAnswered faultless old new left (prepend_known held now) before written
 SessionEnds faultless old new left held now before written ending.ReadFault = (count : ℕ)
     × Served faultless old new left (prepend_known held now) before written count × IsUnfinished held
 SessionEnds faultless old new left held now before written ending.WriteFault = BrokenOff faultless old new left (prepend_known held now) before written
 SessionEnds faultless old new left held now before written ending.Memory = (sent : Option (List ℕ))
     × Lacks faultless old new left (prepend_known held now) before sent × Appends sent written (unable (place_of new))
 
--- the messages of a connection, their answers and their end
+-- the messages of a connection, their answers and their end; where no fault of the keeper can come, the count of faults stands
 pub record SessionTold (faultless : Type 0) (old new : Serving) (left now : Option (List ℕ)) (before written : Option (List ℕ)) (end : Ending) : Type 0 where
   pub held : List ℕ
   pub ends : SessionEnds faultless old new left held now before written end
+  pub still : faultless → new.visiting.faults ≡ old.visiting.faults
 
--- a whole connection of a visitor: its messages are answered in turn, and what it holds at the end is parked
+-- a whole connection of a visitor: its messages are answered in turn, and what it holds at the end is parked; where no fault of the keeper can come, the count of faults at the end is that at the beginning
 pub record ConnectionTold (faultless : Type 0) (start : Connection) (old new : Visiting) (left now : Option (List ℕ)) (before written : Option (List ℕ)) (end : Ending) : Type 0 where
   pub behind : Serving
   pub session : SessionTold faultless (serving start old) behind left now before written end
-  pub parked : IsLastPark behind.connection behind.visiting new
+  pub parked : IsLastPark faultless behind.connection behind.visiting new
+  pub still : faultless → new.faults ≡ old.faults
 
 -- ---- the parts of it
 
@@ -184,26 +195,26 @@ SendEnds place piece sent written (Err end) = ((end ≡ ending.WriteFault) × Ap
 pub record AnswerEnds (faultless : Type 0) (old : Serving) (message : Message) (new : Serving) (sent written : Option (List ℕ)) (n : ℕ) (result : Result (Unit {0}) Ending) : Type 0 where
   pub given : Given
   pub step : Step old message given new
-  pub kept : faultless → given.failed ≡ false
+  pub kept : faultless → (given.failed ≡ false) × (new.visiting.faults ≡ old.visiting.faults)
   pub sends : SendEnds (place_of new) (bytes_of n message given) sent written result
 
--- the ending that an answer to a stop makes
-abbrev pub ended : Result (Unit {0}) Ending → Ending → Ending
-ended (Ok done) named = named
-ended (Err end) named = end
+-- the ending that an answer to a stop makes, the answer number n, from 0: the 1,000,000th goes before its name
+abbrev pub ended : ℕ → Result (Unit {0}) Ending → Ending → Ending
+ended n (Ok done) named = if n + 1 == 1000000 then ending.Spent else named
+ended n (Err end) named = end
 
 -- a connection ends by a stop, which is answered so
-abbrev pub RefusalEnds : ℕ → Answer → Ending → Option (List ℕ) → Option (List ℕ) → Ending → Type 0
-RefusalEnds place answer named sent written end = (sending : Result (Unit {0}) Ending)
-    × SendEnds place (answer_bytes_of answer place true) sent written sending × (end ≡ ended sending named)
+abbrev pub RefusalEnds : ℕ → ℕ → Answer → Ending → Option (List ℕ) → Option (List ℕ) → Ending → Type 0
+RefusalEnds n place answer named sent written end = (sending : Result (Unit {0}) Ending)
+    × SendEnds place (answer_bytes_of answer place true) sent written sending × (end ≡ ended n sending named)
 
--- a connection ends by a stop, at a place
-abbrev pub StopEnds : ℕ → Stop → Option (List ℕ) → Option (List ℕ) → Ending → Type 0
-StopEnds place stop.End sent written end = (end ≡ ending.End) × (written ≡ sent)
-StopEnds place stop.Cut sent written end = (end ≡ ending.Cut) × (written ≡ sent)
-StopEnds place stop.BadHead sent written end = RefusalEnds place (refusal 400 (codes "BadHead")) ending.BadHead sent written end
-StopEnds place stop.TooLarge sent written end = RefusalEnds place (refusal 413 (codes "TooLarge")) ending.TooLarge sent written end
-StopEnds place stop.Encoded sent written end = RefusalEnds place (refusal 501 (codes "Encoded")) ending.Encoded sent written end
-StopEnds place stop.NeedsLength sent written end = RefusalEnds place (refusal 411 (codes "NeedsLength")) ending.NeedsLength sent written end
-StopEnds place stop.ReadFault sent written end = (end ≡ ending.ReadFault) × (written ≡ sent)
-StopEnds place stop.Memory sent written end = UnableEnds place sent written end
+-- a connection ends by a stop behind n answers, at a place
+abbrev pub StopEnds : ℕ → ℕ → Stop → Option (List ℕ) → Option (List ℕ) → Ending → Type 0
+StopEnds n place stop.End sent written end = (end ≡ ending.End) × (written ≡ sent)
+StopEnds n place stop.Cut sent written end = (end ≡ ending.Cut) × (written ≡ sent)
+StopEnds n place stop.BadHead sent written end = RefusalEnds n place (refusal 400 (codes "BadHead")) ending.BadHead sent written end
+StopEnds n place stop.TooLarge sent written end = RefusalEnds n place (refusal 413 (codes "TooLarge")) ending.TooLarge sent written end
+StopEnds n place stop.Encoded sent written end = RefusalEnds n place (refusal 501 (codes "Encoded")) ending.Encoded sent written end
+StopEnds n place stop.NeedsLength sent written end = RefusalEnds n place (refusal 411 (codes "NeedsLength")) ending.NeedsLength sent written end
+StopEnds n place stop.ReadFault sent written end = (end ≡ ending.ReadFault) × (written ≡ sent)
+StopEnds n place stop.Memory sent written end = UnableEnds place sent written end

@@ -1,5 +1,5 @@
 //! Answers, as they are written to the link.
-ghost use Rattle.std.specs.Prelude.{◌≡◌, ◌<◌, ◌≤◌, ◌+◌, length, Err, true};
+ghost use Rattle.std.specs.Prelude.{◌≡◌, ◌<◌, ◌≤◌, ◌+◌, Err, true};
 ghost use Rattle.http.specs.StatusCode.{IsStatusCode};
 ghost use Rattle.http_wire.specs.Answers.{answer_bytes_of, refusal};
 ghost use Rattle.mark_base.specs.Streams.{OnlyWrites, TellsFault};
@@ -76,7 +76,6 @@ pub(crate) fn answer_message<V: Visitor, L: Link, G: Ledger>(
     steps: &mut Steps<G>,
 ) -> Result<(), Ending>
     requires count { count < 1000000 }
-    requires short { length message.now.body ≤ 4194304 }
     requires room { 0 < (V.visiting visitor.old).room }
     requires legal { IsLegal (V.visiting visitor.old).seen }
     ensures told { AnswerEnds (V.faultless visitor.old) (serving (connection_of connection.old) (V.visiting visitor.old)) message.now (serving (connection_of connection.new) (V.visiting visitor.new)) (L.held link.old) (L.held link.new) count result }
@@ -114,19 +113,33 @@ fn refuse_last<L: Link>(
     }
 }
 
-/// The ending that the answer to a stop makes.
-fn ended(sending: Result<(), Ending>, named: Ending) -> Ending
-    ensures { result ≡ ended sending named }
+/// The ending that the answer to a stop makes, the answer number `count`, from 0.
+fn ended(sending: Result<(), Ending>, count: u32, named: Ending) -> Ending
+    requires { count < 1000000 }
+    ensures { result ≡ ended count sending named }
 {
     match sending {
-        Ok(()) => named,
+        Ok(()) => {
+            if count + 1 == MOST_ANSWERS {
+                Ending::Spent
+            } else {
+                named
+            }
+        }
         Err(ending) => ending,
     }
 }
 
-/// Ends a connection by a stop, with its answer where it has one.
-pub(crate) fn end_stopped<L: Link>(alloc: Global, link: &mut L, stop: Stop, place: u64) -> Ending
-    ensures told { StopEnds place stop (L.held link.old) (L.held link.new) result }
+/// Ends a connection by a stop behind `count` answers, with its answer where it has one.
+pub(crate) fn end_stopped<L: Link>(
+    alloc: Global,
+    link: &mut L,
+    stop: Stop,
+    count: u32,
+    place: u64,
+) -> Ending
+    requires count { count < 1000000 }
+    ensures told { StopEnds count place stop (L.held link.old) (L.held link.new) result }
     ensures cause { TellsFault (result ≡ Ending.WriteFault) (L.write_faults link.old) (L.write_faults link.new) }
     ensures read { (result ≡ Ending.ReadFault) → (stop ≡ Stop.ReadFault) }
     ensures read_fault { (stop ≡ Stop.ReadFault) → (result ≡ Ending.ReadFault) }
@@ -137,18 +150,22 @@ pub(crate) fn end_stopped<L: Link>(alloc: Global, link: &mut L, stop: Stop, plac
         Stop::Cut => Ending::Cut,
         Stop::BadHead => ended(
             refuse_last(alloc, link, 400, "BadHead", place),
+            count,
             Ending::BadHead,
         ),
         Stop::TooLarge => ended(
             refuse_last(alloc, link, 413, "TooLarge", place),
+            count,
             Ending::TooLarge,
         ),
         Stop::Encoded => ended(
             refuse_last(alloc, link, 501, "Encoded", place),
+            count,
             Ending::Encoded,
         ),
         Stop::NeedsLength => ended(
             refuse_last(alloc, link, 411, "NeedsLength", place),
+            count,
             Ending::NeedsLength,
         ),
         Stop::ReadFault => Ending::ReadFault,

@@ -17,7 +17,8 @@ pub enum Ending {
     Encoded,
     /// The last message asked to close, or was of version 1.0.
     Closed,
-    /// The 1,000,000th answer was written.
+    /// The 1,000,000th answer was written, to a message or to what is no message. This goes before the other endings
+    /// with a whole last answer.
     Spent,
     /// A read of the link failed.
     ReadFault,

@@ -7,8 +7,8 @@
 //! let ending = serve_link(alloc, &mut visitor, Start::Bare, &mut link, &mut steps);
 //! ```
 //!
-//! `specs/Steps.antt` has one message with its answer, `specs/Session.antt` the whole connection by its ending, and
-//! `specs/OneHistory.antt` the same as one history tells it.
+//! `specs/Steps.antt` has one message with its answer, `specs/Session.antt` the whole connection by its ending,
+//! `specs/Talk.antt` its messages, and `specs/OneHistory.antt` the same as one history tells it.
 #![tactic(auto)]
 
 mod answering;
@@ -18,5 +18,5 @@ mod parking;
 mod session;
 
 pub use crate::ending::Ending;
-pub use crate::laws::connections_tell_one_history;
+pub use crate::laws::{connections_tell_one_history, messages_tell_one_history};
 pub use crate::session::serve_link;

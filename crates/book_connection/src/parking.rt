@@ -13,7 +13,7 @@ use std::sync::ledger::Ledger;
 fn park_held<V: Visitor, G: Ledger>(visitor: &mut V, held: &Held, steps: &mut Steps<G>)
     requires room { 0 < (V.visiting visitor.old).room }
     requires legal { IsLegal (V.visiting visitor.old).seen }
-    ensures parked { IsLastPark (Holds (holding_of held.now)) (V.visiting visitor.old) (V.visiting visitor.new) }
+    ensures parked { IsLastPark (V.faultless visitor.old) (Holds (holding_of held.now)) (V.visiting visitor.old) (V.visiting visitor.new) }
     ensures legal { IsLegal (V.visiting visitor.new).seen }
     ensures room { (V.visiting visitor.old).room ≤ (V.visiting visitor.new).room + 1 }
     ensures badge { (V.visiting visitor.new).badge ≡ (V.visiting visitor.old).badge }
@@ -35,7 +35,7 @@ pub(crate) fn park_last<V: Visitor, G: Ledger>(
 )
     requires room { 0 < (V.visiting visitor.old).room }
     requires legal { IsLegal (V.visiting visitor.old).seen }
-    ensures parked { IsLastPark (connection_of connection.now) (V.visiting visitor.old) (V.visiting visitor.new) }
+    ensures parked { IsLastPark (V.faultless visitor.old) (connection_of connection.now) (V.visiting visitor.old) (V.visiting visitor.new) }
     ensures legal { IsLegal (V.visiting visitor.new).seen }
     ensures room { (V.visiting visitor.old).room ≤ (V.visiting visitor.new).room + 1 }
     ensures badge { (V.visiting visitor.new).badge ≡ (V.visiting visitor.old).badge }

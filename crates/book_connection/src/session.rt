@@ -46,7 +46,7 @@ fn serve_messages<V: Visitor, L: Link, G: Ledger>(
     for count in 0..MOST_ANSWERS {
         let message = match inbox.next_message(link) {
             Ok(message) => message,
-            Err(stop) => return end_stopped(alloc, link, stop, visitor.place()),
+            Err(stop) => return end_stopped(alloc, link, stop, count, visitor.place()),
         };
         match answer_message(
             alloc, &routes, visitor, connection, link, &message, count, steps,

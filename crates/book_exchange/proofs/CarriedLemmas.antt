@@ -1,20 +1,22 @@
 -- How a plan is carried out, from what its parts do.
 use Rattle.std.specs.Prelude.{IfOk, OnErr}
-use Rattle.std.proofs.Common.{◌≡◌, ◌≢◌, ◌+◌, ◌≤◌, arith, ℕ, Bool, true, false, List, [], Option, Some, None, Result, Ok, Err, refl, sym, ◌∙◌, ap, subst, inl, inr, if◌then◌else◌}
+use Rattle.std.proofs.Common.{◌≡◌, ◌≢◌, ◌+◌, ◌≤◌, arith, ℕ, Bool, true, false, List, [], length, nat_lt, Option, Some, None, Result, Ok, Err, refl, sym, ◌∙◌, ap, subst, inl, inr, if◌then◌else◌}
 use Rattle.http.specs.StatusCode.{IsStatusCode}
 use Rattle.http_wire.specs.declared.answer.Answer.{Answer}
 use Rattle.layer_model.specs.Annotations.{Annotations}
 use Rattle.layer_core.specs.declared.command.Command.{Command}
 use Rattle.layer_undo.specs.Desks.{DeskState, settled}
-use Rattle.desk_answers.specs.DeskAnswers.{Outcome, IsLeft, IsOutcome, lines_answer, no_memory, shown}
+use Rattle.desk_answers.specs.DeskAnswers.{Outcome, IsLeft, IsOutcome, lines_answer, loaded, no_memory, shown}
 use Rattle.book_routes.specs.declared.route.Route.{Route}
 use Rattle.book_answers.specs.Answers.{answer_on}
+use Rattle.json_answers.specs.declared.message_fault.MessageFault.TheVariants as message
+use Rattle.json_answers.specs.Refusals.{fault_answer}
 use Rattle.project_machine.specs.declared.book_refusal.BookRefusal.TheVariants as no
 use Rattle.project_machine.specs.Requests.{Asked, ReadConf, ListDocs, ReadText, AddText, Checkout, TakeOver, Commit, Park, Finish, ReadLayer, Reopen, Ignore, Readmit, Snap, TakeSnapshot, Decide, Undecide, ReadPairs, ReadAlpha, Answered, Committed, HandedOut, Parked, Refused}
 use Rattle.project_machine.specs.Legal.{IsLegal}
 use Rattle.project_machine.specs.Asking.{StaysFaultless, Visited, Visiting}
 use Rattle.book_exchange.specs.Connections.{Connection, Bare, Holding, Holds, with_desk}
-use Rattle.book_exchange.specs.Plans.{Plan, AtOnce, AsksBook, at_once}
+use Rattle.book_exchange.specs.Plans.{Plan, AtOnce, AsksBook, at_once, loads}
 use Rattle.book_exchange.specs.Exchanges.{Carried, is_at_once, asks, loses, is_unable, IsCarriedOut, IsDone, IsGiven, desk_asked, held_by, given_up, is_committed, is_given_up, is_handed_out, is_not_kept, leaves_connection, next}
 
 -- ---- answers that are given
@@ -186,6 +188,18 @@ pub outcome_given : {E : Type 0} (result : Result Answer E) (held : Holding) (ou
 outcome_given (Ok answer) held outcome new is status left = (outcome_done held outcome new answer is, status)
 outcome_given (Err lack) held outcome new is status (inl e) = (outcome.0, outcome_done held outcome new outcome.0 (inl (ap (λ (d : DeskState). (outcome.0, d)) e)))
 outcome_given (Err lack) held outcome new is status (inr e) = (no_memory, outcome_done held outcome new no_memory (inr (refl, e)))
+
+-- a file that is longer than any body is none
+pub long_given : {E : Type 0} (result : Result Answer E) (held : Holding) (bytes : List ℕ) → nat_lt 4194304 (length bytes) ≡ true
+    → IfOk result (λ answer. answer ≡ fault_answer message.BadBody) → IfOk result (λ answer. IsStatusCode answer.status) → IsGiven result (IsDone (loads held bytes) held held)
+long_given result held bytes long is status =
+    given result (fault_answer message.BadBody) (λ answer e. rw long (inl (ap (λ (a : Answer). AtOnce a (Holds held)) (sym e)))) is status
+
+-- any other is read
+pub load_given : {E : Type 0} (result : Result Answer E) (held : Holding) (bytes : List ℕ) (new : DeskState) → nat_lt 4194304 (length bytes) ≡ false
+    → IfOk result (λ answer. IsOutcome (loaded held.desk bytes) held.desk answer new) → IfOk result (λ answer. IsStatusCode answer.status) → OnErr result (IsLeft (loaded held.desk bytes) held.desk new)
+    → IsGiven result (IsDone (loads held bytes) held (with_desk held new))
+load_given result held bytes new short is status left = rw short (outcome_given result held (loaded held.desk bytes) new is status left)
 
 -- the layer of a desk is shown
 pub shown_given : {E : Type 0} (result : Result Answer E) (held : Holding) → IfOk result (λ answer. answer ≡ lines_answer held.desk) → IfOk result (λ answer. IsStatusCode answer.status)

@@ -1,4 +1,6 @@
 mod CarriedLemmas
+mod HoldLemmas
+mod OpenLemmas
 mod OpenedLemmas
 mod PlanLemmas
 mod VisitedLemmas

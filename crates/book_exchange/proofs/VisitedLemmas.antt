@@ -15,7 +15,7 @@ take_length [] = refl
 take_length (x ∷ xs) = let e : take (length xs) xs ≡ xs = take_length xs in rw e refl
 
 -- what others did before is a history
-others_legal : (seen more : List Happened) → 0 < length seen → IsLegal (seen ++ more) → IsLegal seen
+pub others_legal : (seen more : List Happened) → 0 < length seen → IsLegal (seen ++ more) → IsLegal seen
 others_legal seen more some legal =
     subst IsLegal (take-append-le (length seen) seen more (omega arith) ∙ take_length seen) (front_legal (length seen) (seen ++ more) legal some)
 

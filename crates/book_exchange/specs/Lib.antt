@@ -1,3 +1,4 @@
 pub mod Connections
 pub mod Plans
 pub mod Exchanges
+pub mod OpenDesks

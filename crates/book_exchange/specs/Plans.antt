@@ -1,5 +1,5 @@
 -- What a message comes to on a connection: the tests of a message in their order, and then what is asked of the desk or of the project.
-use Rattle.std.specs.Prelude.{◌&&◌, ℕ, false, List, Option, Some, None, is_some, option_and_then, Result, Ok, Err, bytes_eq, if◌then◌else◌}
+use Rattle.std.specs.Prelude.{◌&&◌, ℕ, false, List, Option, Some, None, is_some, option_and_then, Result, Ok, Err, bytes_eq, length, nat_lt, if◌then◌else◌}
 use Rattle.http_wire.specs.declared.answer.Answer.{Answer}
 use Rattle.http_wire.specs.declared.message.Message.{Message}
 use Rattle.layer_undo.specs.Desks.{layer_of}
@@ -47,13 +47,17 @@ commits held = AsksBook (route.Desk desk.Commit) held.who (Commit held.doc held.
 abbrev pub parks : Holding → Plan
 parks held = AsksBook (route.Desk desk.Park) held.who (Park held.doc held.hold held.desk.done held.desk.undone)
 
+-- an .ann file is to take the place of the layer of a desk; a body that is longer than any that comes in a message is none
+abbrev pub loads : Holding → List ℕ → Plan
+loads held body = if nat_lt 4194304 (length body) then refuses (Holds held) message.BadBody else at_once held (loaded held.desk body)
+
 -- what a route asks of a held desk
 abbrev pub on_desk : Holding → DeskRoute → List ℕ → Plan
 on_desk held desk.Show body = at_once held (shown held.desk)
 on_desk held desk.Do body = at_once held (asked held.desk body)
 on_desk held desk.Undo body = at_once held (undone held.desk)
 on_desk held desk.Redo body = at_once held (redone held.desk)
-on_desk held desk.Load body = at_once held (loaded held.desk body)
+on_desk held desk.Load body = loads held body
 on_desk held desk.Commit body = commits held
 on_desk held desk.Park body = parks held
 

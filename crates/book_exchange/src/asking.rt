@@ -49,8 +49,8 @@ pub(crate) fn ask<V: Visitor, G: Ledger>(
 
 // ---- a desk that is handed out
 
-/// The desk on a layer that is handed out.
-fn open_held(alloc: Global, who: Slug, doc: Slug, out: Out) -> Result<Held, Memory>
+/// The desk on a layer that a project hands out to an annotator on a document. Cost: the layer, and its commands once.
+pub fn open_held(alloc: Global, who: Slug, doc: Slug, out: Out) -> Result<Held, Memory>
     requires { IsDesk (desk_on (out_of out)) }
     ensures { IfOk result (λ held. holding_of held ≡ handed who doc (out_of out)) }
 {

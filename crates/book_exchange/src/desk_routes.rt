@@ -1,9 +1,9 @@
 //! The routes of the desk that a connection holds.
-ghost use Rattle.std.specs.Prelude.{◌≡◌, ◌<◌, ◌≤◌, length};
+ghost use Rattle.std.specs.Prelude.{◌≡◌, ◌<◌};
 ghost use Rattle.project_machine.specs.Legal.{IsLegal};
 ghost use Rattle.book_exchange.specs.Connections.{Holds, connection_of, holding_of};
-ghost use Rattle.book_exchange.specs.Plans.{at_desk, on_desk};
-ghost use Rattle.book_exchange.specs.Exchanges.{IsCarriedOut, IsGiven, given_up};
+ghost use Rattle.book_exchange.specs.Plans.{at_desk, loads, on_desk};
+ghost use Rattle.book_exchange.specs.Exchanges.{IsCarriedOut, IsDone, IsGiven, given_up};
 
 use crate::asking::{DeskAnswer, commit, park};
 use crate::connection::{Held, Start};
@@ -16,6 +16,19 @@ use project_book::Visitor;
 use std::alloc::Global;
 use std::sync::ledger::Ledger;
 
+/// The most bytes that a body has which comes in a message.
+const MOST_BODY: usize = 4_194_304;
+
+/// Takes an .ann file in place of the layer of a desk.
+fn load(alloc: Global, held: &mut Held, body: &[u8]) -> Result<Answer, Memory>
+    ensures { IsGiven result (IsDone (loads (holding_of held.old) body.now) (holding_of held.old) (holding_of held.new)) }
+{
+    if body.len() > MOST_BODY {
+        return MessageFault::BadBody.answer(alloc);
+    }
+    load_file(alloc, &mut held.desk, &held.text, &held.conf, body)
+}
+
 /// What a desk answers on a route.
 fn on_desk<V: Visitor, G: Ledger>(
     alloc: Global,
@@ -27,7 +40,6 @@ fn on_desk<V: Visitor, G: Ledger>(
 ) -> DeskAnswer
     requires room { 0 < (V.visiting visitor.old).room }
     requires legal { IsLegal (V.visiting visitor.old).seen }
-    requires short { length body.now ≤ 4194304 }
     ensures served { IsGiven result.answer (IsCarriedOut (on_desk (holding_of held.old) route body.now) (Holds (holding_of held.old)) (V.visiting visitor.old) (V.faultless visitor.old) (given_up result.leaves (Holds (holding_of held.new))) (V.visiting visitor.new)) }
     ensures stays { V.faultless visitor.old → V.faultless visitor.new }
 {
@@ -61,7 +73,7 @@ fn on_desk<V: Visitor, G: Ledger>(
             }
         }
         DeskRoute::Load => {
-            let answer = load_file(alloc, &mut held.desk, &held.text, &held.conf, body);
+            let answer = load(alloc, held, body);
             DeskAnswer {
                 answer,
                 leaves: false,
@@ -90,7 +102,6 @@ pub(crate) fn at_desk<V: Visitor, G: Ledger>(
 ) -> Result<Answer, Memory>
     requires room { 0 < (V.visiting visitor.old).room }
     requires legal { IsLegal (V.visiting visitor.old).seen }
-    requires short { length body.now ≤ 4194304 }
     ensures served { IsGiven result (IsCarriedOut (at_desk (connection_of connection.old) caller.now route body.now) (connection_of connection.old) (V.visiting visitor.old) (V.faultless visitor.old) (connection_of connection.new) (V.visiting visitor.new)) }
     ensures stays { V.faultless visitor.old → V.faultless visitor.new }
 {

@@ -8,16 +8,20 @@
 //! ```
 //!
 //! `specs/Plans.antt` has the tests of a message in their order and what it comes to, `specs/Exchanges.antt` what the
-//! connection holds behind the answer of the project.
+//! connection holds behind the answer of the project, and `specs/OpenDesks.antt` what a held desk is in a history.
 #![tactic(auto)]
 
 mod asking;
 mod connection;
 mod desk_routes;
+mod laws;
 mod messages;
 mod worked_plans;
 
-pub use crate::asking::park_request;
+pub use crate::asking::{open_held, park_request};
 pub use crate::connection::{Held, Start};
+pub use crate::laws::{
+    desks_can_be_opened, held_desks_stay_open, only_commits_under_its_hold_change_a_layer,
+};
 pub use crate::messages::{exchange, serve_message};
 pub use crate::worked_plans::{examples_of_asking_messages, examples_of_refused_messages};

@@ -1,11 +1,12 @@
 //! One message, and its answer.
-ghost use Rattle.std.specs.Prelude.{◌≡◌, ◌&&◌, ◌<◌, ◌≤◌, ◌+◌, is_some, length, IfOk};
+ghost use Rattle.std.specs.Prelude.{◌≡◌, ◌&&◌, ◌<◌, ◌≤◌, ◌+◌, is_some, IfOk};
 ghost use Rattle.std.specs.Option.{option_copied};
 ghost use Rattle.project_machine.specs.Legal.{IsLegal};
 ghost use Rattle.book_routes.specs.Segments.{slug_read};
 ghost use Rattle.book_exchange.specs.Connections.{connection_of, is_held};
 ghost use Rattle.book_exchange.specs.Plans.{at_book, by_caller, caller_of, desk_named, on_route, planned};
 ghost use Rattle.book_exchange.specs.Exchanges.{IsCarriedOut, IsExchange, IsGiven};
+ghost use Rattle.book_exchange.specs.OpenDesks.{IsOpen};
 
 use crate::asking::{ask_book, check_out};
 use crate::connection::Start;
@@ -105,7 +106,6 @@ fn on_route<V: Visitor, G: Ledger>(
 ) -> Result<Answer, Memory>
     requires room { 0 < (V.visiting visitor.old).room }
     requires legal { IsLegal (V.visiting visitor.old).seen }
-    requires short { length body.now ≤ 4194304 }
     ensures served { IsGiven result (IsCarriedOut (on_route (connection_of connection.old) caller.now route.now body.now) (connection_of connection.old) (V.visiting visitor.old) (V.faultless visitor.old) (connection_of connection.new) (V.visiting visitor.new)) }
     ensures stays { V.faultless visitor.old → V.faultless visitor.new }
 {
@@ -153,7 +153,6 @@ fn at_route<V: Visitor, G: Ledger>(
 ) -> Result<Answer, Memory>
     requires room { 0 < (V.visiting visitor.old).room }
     requires legal { IsLegal (V.visiting visitor.old).seen }
-    requires short { length message.now.body ≤ 4194304 }
     ensures served { IsGiven result (IsCarriedOut (by_caller (connection_of connection.old) route.now message.now.body (caller_of message.now)) (connection_of connection.old) (V.visiting visitor.old) (V.faultless visitor.old) (connection_of connection.new) (V.visiting visitor.new)) }
     ensures stays { V.faultless visitor.old → V.faultless visitor.new }
 {
@@ -184,7 +183,6 @@ fn at_path<V: Visitor, G: Ledger>(
 ) -> Result<Answer, Memory>
     requires room { 0 < (V.visiting visitor.old).room }
     requires legal { IsLegal (V.visiting visitor.old).seen }
-    requires short { length message.now.body ≤ 4194304 }
     ensures served { IsGiven result (IsExchange (connection_of connection.old) (V.visiting visitor.old) (V.faultless visitor.old) message.now (connection_of connection.new) (V.visiting visitor.new)) }
     ensures stays { V.faultless visitor.old → V.faultless visitor.new }
 {
@@ -207,13 +205,14 @@ pub fn exchange<V: Visitor, G: Ledger>(
 ) -> Result<Answer, Memory>
     requires room { 0 < (V.visiting visitor.old).room }
     requires legal { IsLegal (V.visiting visitor.old).seen }
-    requires short { length message.now.body ≤ 4194304 }
     ensures served { IsGiven result (IsExchange (connection_of connection.old) (V.visiting visitor.old) (V.faultless visitor.old) message.now (connection_of connection.new) (V.visiting visitor.new)) }
     ensures legal { IsLegal (V.visiting visitor.new).seen }
+    ensures open_desk { IsOpen (V.visiting visitor.old).seen (V.visiting visitor.old).mine (connection_of connection.old) → IsOpen (V.visiting visitor.new).seen (V.visiting visitor.new).mine (connection_of connection.new) }
     ensures room { (V.visiting visitor.old).room ≤ (V.visiting visitor.new).room + 1 }
     ensures badge { (V.visiting visitor.new).badge ≡ (V.visiting visitor.old).badge }
     ensures stays { V.faultless visitor.old → V.faultless visitor.new }
 {
+    visitor.keeps();
     at_path(alloc, routes, visitor, connection, message, steps)
 }
 
@@ -234,9 +233,9 @@ pub fn serve_message<V: Visitor, G: Ledger>(
 ) -> Result<Answer, Memory>
     requires room { 0 < (V.visiting visitor.old).room }
     requires legal { IsLegal (V.visiting visitor.old).seen }
-    requires short { length message.now.body ≤ 4194304 }
     ensures served { IsGiven result (IsExchange (connection_of connection.old) (V.visiting visitor.old) (V.faultless visitor.old) message.now (connection_of connection.new) (V.visiting visitor.new)) }
     ensures legal { IsLegal (V.visiting visitor.new).seen }
+    ensures open_desk { IsOpen (V.visiting visitor.old).seen (V.visiting visitor.old).mine (connection_of connection.old) → IsOpen (V.visiting visitor.new).seen (V.visiting visitor.new).mine (connection_of connection.new) }
     ensures room { (V.visiting visitor.old).room ≤ (V.visiting visitor.new).room + 1 }
     ensures badge { (V.visiting visitor.new).badge ≡ (V.visiting visitor.old).badge }
     ensures stays { V.faultless visitor.old → V.faultless visitor.new }

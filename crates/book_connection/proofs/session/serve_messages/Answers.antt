@@ -32,7 +32,7 @@ returns-in-Err-next_message-clause-session g c =
     rw c.end_stopped.ensures.apart.left
     (session_stops _ _ _ c.loop-count.count _ _ _ _ _ _ c.next_message.new.self.held c.in-Err-next_message.stop _ c.loop-count.invariant.served
     c.in-Err-next_message.ensures.kept c.in-Err-next_message.ensures.stop
-    (stops_at _ _ _ _ _ _ (c.place-in-Err-next_message.ensures c.loop-count.invariant.legal) (rw (← c.next_message.ensures.apart.held) c.end_stopped.ensures.told)))
+    (stops_at c.loop-count.count _ _ _ _ _ _ (c.place-in-Err-next_message.ensures c.loop-count.invariant.legal) (rw (← c.next_message.ensures.apart.held) c.end_stopped.ensures.told)))
 
 pub returns-in-Err-next_message-clause-read : goal.returns-in-Err-next_message-clause-read
 returns-in-Err-next_message-clause-read g c =

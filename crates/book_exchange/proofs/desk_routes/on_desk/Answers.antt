@@ -1,4 +1,4 @@
-use Rattle.desk_answers.specs.DeskAnswers.{asked, loaded, redone, undone}
+use Rattle.desk_answers.specs.DeskAnswers.{asked, redone, undone}
 use Rattle.book_exchange.specs.Connections.{holding_of}
 use Rattle.book_exchange.proofs.CarriedLemmas.{done_given, outcome_given, shown_given}
 use Rattle.book_exchange.proofs.desk_routes.on_desk.Goals as goal
@@ -28,7 +28,4 @@ returns-in-Redo-clause-served g c =
     (outcome_given c.redo_last-answer.result (holding_of c.args.held.now) (redone c.args.held.now.desk) c.redo_last-answer.new.desk c.redo_last-answer.ensures.said c.redo_last-answer.ensures.status c.redo_last-answer.ensures.left))
 
 pub returns-in-Load-clause-served : goal.returns-in-Load-clause-served
-returns-in-Load-clause-served g c =
-    rw c.in-Load.is
-    (done_given c.load_file-answer.result _ _ _ _ _
-    (outcome_given c.load_file-answer.result (holding_of c.args.held.now) (loaded c.args.held.now.desk c.args.body.now) c.load_file-answer.new.desk c.load_file-answer.ensures.said c.load_file-answer.ensures.status c.load_file-answer.ensures.left))
+returns-in-Load-clause-served g c = rw c.in-Load.is (done_given c.load-answer.result _ _ _ _ _ c.load-answer.ensures)

@@ -1,4 +1,5 @@
 use Rattle.book_exchange.proofs.CarriedLemmas.{given_badge, given_legal, given_room}
+use Rattle.book_exchange.proofs.OpenLemmas.{given_open}
 use Rattle.book_exchange.proofs.messages.exchange.Goals as goal
 
 pub returns-clause-legal : goal.returns-clause-legal
@@ -9,3 +10,6 @@ returns-clause-room g c = given_room _ _ _ _ _ _ _ c.at_path.ensures.served
 
 pub returns-clause-badge : goal.returns-clause-badge
 returns-clause-badge g c = given_badge _ _ _ _ _ _ _ c.at_path.ensures.served
+
+pub returns-clause-open_desk : goal.returns-clause-open_desk
+returns-clause-open_desk g c = λ open_on. given_open _ _ _ _ _ _ _ c.requires.legal c.keeps.ensures c.at_path.ensures.served open_on
