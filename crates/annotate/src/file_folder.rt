@@ -1,8 +1,8 @@
 //! The files of the system as a folder.
 ghost use Rattle.std.specs.Prelude.{◌≡◌, None};
 
-use annotation_cli::{Folder, FolderFault};
 use mark_base::Bytes;
+use program_inputs::{Folder, FolderFault};
 use std::alloc::Global;
 use std::fs;
 use std::io::{self, ErrorKind, Read};

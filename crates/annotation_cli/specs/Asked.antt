@@ -1,43 +1,40 @@
 -- Which command the words are.
-use Rattle.std.specs.Prelude.{ℕ, ◌==◌, Bool, not, ◌&&◌, List, [], ◌∷◌, if◌then◌else◌, Option, Some, None, bytes_eq, codes, slice_index}
+use Rattle.std.specs.Prelude.{ℕ, ◌==◌, ◌||◌, Bool, List, [], ◌∷◌, if◌then◌else◌, Option, Some, None, bytes_eq, codes, slice_index}
+use Rattle.annotation_cli.specs.declared.asked.Job.{Job}
+use Rattle.annotation_cli.specs.declared.asked.Job.TheVariants as job
 
--- the names of the files of `try`
-pub record TryFiles : Type 0 where
-  pub conf : List ℕ
-  pub text : List ℕ
+-- a command, with the words behind its name
+pub data Command : Type 0 where
+  Try : (conf text : List ℕ) → Command
+  Verify : (conf text ann : List ℕ) → Command
+  ColumnsIn : (conf text columns : List ℕ) → Command
 
--- the names of the files of `verify`
-pub record VerifyFiles : Type 0 where
-  pub conf : List ℕ
-  pub text : List ℕ
-  pub ann : List ℕ
+-- a word that begins with a hyphen
+abbrev pub has_hyphen : List ℕ → Bool
+has_hyphen word = slice_index word 0 == 45
 
--- the names of the files of `columns-in`
-pub record ColumnsFiles : Type 0 where
-  pub conf : List ℕ
-  pub text : List ℕ
-  pub columns : List ℕ
+-- commands of two words more
+abbrev pub with_two : (name a b : List ℕ) → Option Command
+with_two name a b = if bytes_eq name (codes "try") then Some (Try a b) else None
 
--- a word that begins with a hyphen names no file
-abbrev pub is_file_word : List ℕ → Bool
-is_file_word word = not (slice_index word 0 == 45)
+-- commands of three words more
+abbrev pub with_three : (name a b c : List ℕ) → Option Command
+with_three name a b c =
+    if bytes_eq name (codes "verify") then Some (Verify a b c)
+    else if bytes_eq name (codes "columns-in") then Some (ColumnsIn a b c) else None
 
--- the words `try CONF TEXT`
-abbrev pub try_words : List (List ℕ) → Option TryFiles
-try_words (command ∷ conf ∷ text ∷ []) =
-    if bytes_eq command (codes "try") && is_file_word conf && is_file_word text then Some (record { conf = conf; text = text }) else None
-try_words words = None
+-- a command, unless one of its words begins with a hyphen
+abbrev pub unless_hyphens : Bool → Option Command → Option Command
+unless_hyphens hyphens command = if hyphens then None else command
 
--- the words `verify CONF TEXT ANN`
-abbrev pub verify_words : List (List ℕ) → Option VerifyFiles
-verify_words (command ∷ conf ∷ text ∷ ann ∷ []) =
-    if bytes_eq command (codes "verify") && is_file_word conf && is_file_word text && is_file_word ann
-    then Some (record { conf = conf; text = text; ann = ann }) else None
-verify_words words = None
+-- the command that the words are; a word that begins with a hyphen is none of a command
+abbrev pub command_of : List (List ℕ) → Option Command
+command_of (name ∷ a ∷ b ∷ []) = unless_hyphens (has_hyphen a || has_hyphen b) (with_two name a b)
+command_of (name ∷ a ∷ b ∷ c ∷ []) = unless_hyphens (has_hyphen a || has_hyphen b || has_hyphen c) (with_three name a b c)
+command_of words = None
 
--- the words `columns-in CONF TEXT COLUMNS`
-abbrev pub columns_words : List (List ℕ) → Option ColumnsFiles
-columns_words (command ∷ conf ∷ text ∷ columns ∷ []) =
-    if bytes_eq command (codes "columns-in") && is_file_word conf && is_file_word text && is_file_word columns
-    then Some (record { conf = conf; text = text; columns = columns }) else None
-columns_words words = None
+-- the command of a job
+abbrev pub command_in : Job → Command
+command_in (job.Try conf text) = Try conf.now text.now
+command_in (job.Verify conf text ann) = Verify conf.now text.now ann.now
+command_in (job.ColumnsIn conf text columns) = ColumnsIn conf.now text.now columns.now

@@ -6,9 +6,9 @@ use Rattle.annotation_conf.specs.Configurations.{Configuration}
 use Rattle.layer_model.specs.Annotations.{Annotations}
 use Rattle.ann_writer.specs.AnnOf.{ann_of}
 use Rattle.annotation_cli.specs.declared.columns_in.Shown.{Shown}
-use Rattle.annotation_cli.specs.declared.trouble.Trouble.{Trouble}
-use Rattle.annotation_cli.specs.declared.trouble.Trouble.TheVariants as trouble
-use Rattle.annotation_cli.specs.Files.{HasConf, ConfRefused, HoldsText, HasColumns, ColumnsRefused}
+use Rattle.program_inputs.specs.declared.trouble.Trouble.{Trouble}
+use Rattle.program_inputs.specs.declared.trouble.Trouble.TheVariants as trouble
+use Rattle.program_inputs.specs.Files.{HasConf, ConfRefused, HoldsText, HasColumns, ColumnsRefused}
 use Rattle.annotation_cli.specs.Verify.{TextAtFault}
 
 -- the three files were read

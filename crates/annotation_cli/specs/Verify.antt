@@ -6,9 +6,9 @@ use Rattle.mark_base.specs.declared.ann_id.Kind.TheVariants as letter
 use Rattle.annotation_conf.specs.Configurations.{Configuration}
 use Rattle.layer_model.specs.Annotations.{Annotations}
 use Rattle.layer_model.specs.Layers.{count}
-use Rattle.annotation_cli.specs.declared.trouble.Trouble.{Trouble}
-use Rattle.annotation_cli.specs.declared.trouble.Trouble.TheVariants as trouble
-use Rattle.annotation_cli.specs.Files.{HasConf, ConfRefused, HoldsText, TextRefused, HasAnn, AnnRefused}
+use Rattle.program_inputs.specs.declared.trouble.Trouble.{Trouble}
+use Rattle.program_inputs.specs.declared.trouble.Trouble.TheVariants as trouble
+use Rattle.program_inputs.specs.Files.{HasConf, ConfRefused, HoldsText, TextRefused, HasAnn, AnnRefused}
 
 -- a number behind what it counts
 abbrev pub counted : List ℕ → ℕ → List ℕ

@@ -16,20 +16,10 @@
 
 mod asked;
 mod columns_in;
-mod complaint;
 mod examples;
-mod files;
-mod folder;
-mod memory_folder;
 pub mod run;
-mod trouble;
-mod try_desk;
 mod verify;
 mod world;
 
-pub use crate::complaint::end_run;
-pub use crate::examples::{examples_of_complaints, examples_of_words};
-pub use crate::folder::{Folder, FolderFault};
-pub use crate::memory_folder::MemoryFolder;
-pub use crate::trouble::Trouble;
+pub use crate::examples::examples_of_words;
 pub use crate::world::World;

@@ -3,30 +3,30 @@ ghost use Rattle.std.specs.Prelude.{◌≡◌, ◌≢◌, ◌≤◌, ◌++◌, I
 ghost use Rattle.mark_base.specs.Streams.{OnlyWrites, TellsFault};
 ghost use Rattle.annotation_cli.specs.Verify.{Counts, LayerTold, VerifyTold, counted, counts_line};
 
-use crate::asked::VerifyFiles;
-use crate::files::{read_ann_file, read_conf_file, read_text_file};
-use crate::folder::Folder;
-use crate::trouble::Trouble;
 use layer_model::Layer;
 use mark_base::{Kind, Link, Memory, send_all};
+use program_inputs::{Folder, Trouble, read_ann_file, read_conf_file, read_text_file};
 use std::alloc::Global;
 
 /// The layer of the files, each of which is judged before the next is read.
 fn read_files<F: Folder>(
     alloc: Global,
-    files: VerifyFiles<'_>,
+    conf: &str,
+    text: &str,
+    ann: &str,
     folder: &mut F,
 ) -> Result<Layer, Trouble>
-    ensures told { LayerTold (F.file folder.old files.entry.conf.now) (F.file folder.old files.entry.text.now) (F.file folder.old files.entry.ann.now)
+    ensures told { LayerTold (F.file folder.old conf.now) (F.file folder.old text.now) (F.file folder.old ann.now)
         (F.folder_faults folder.old) (F.folder_faults folder.new) result }
     ensures later { F.folder_faults folder.old ≤ F.folder_faults folder.new }
     ensures cause { TellsFault (IsErrOf result Trouble.FileFailed) (F.folder_faults folder.old) (F.folder_faults folder.new) }
     ensures no_read { IfErr result (λ trouble. trouble ≢ Trouble.ReadFault) }
     ensures no_write { IfErr result (λ trouble. trouble ≢ Trouble.WriteFault) }
+    ensures no_disk { IfErr result (λ trouble. trouble ≢ Trouble.DiskFailed) }
 {
-    let conf = read_conf_file(alloc, folder, files.conf)?;
-    let text = read_text_file(alloc, folder, files.text)?;
-    read_ann_file(alloc, folder, files.ann, &text, &conf)
+    let conf = read_conf_file(alloc, folder, conf)?;
+    let text = read_text_file(alloc, folder, text)?;
+    read_ann_file(alloc, folder, ann, &text, &conf)
 }
 
 /// Writes a number behind what it counts.
@@ -69,6 +69,7 @@ fn tell_counts<C: Link>(alloc: Global, console: &mut C, layer: &Layer) -> Result
     ensures cause { TellsFault (IsErrOf result Trouble.WriteFault) (C.write_faults console.old) (C.write_faults console.new) }
     ensures no_read { IfErr result (λ trouble. trouble ≢ Trouble.ReadFault) }
     ensures no_file { IfErr result (λ trouble. trouble ≢ Trouble.FileFailed) }
+    ensures no_disk { IfErr result (λ trouble. trouble ≢ Trouble.DiskFailed) }
     ensures apart { OnlyWrites C.left C.read_faults C.write_faults console.old console.new }
 {
     let line = match counts_line(alloc, layer) {
@@ -84,18 +85,21 @@ fn tell_counts<C: Link>(alloc: Global, console: &mut C, layer: &Layer) -> Result
 /// Reads the three files, and writes how much of each sort the last one spells.
 pub(crate) fn verify<F: Folder, C: Link>(
     alloc: Global,
-    files: VerifyFiles<'_>,
+    conf: &str,
+    text: &str,
+    ann: &str,
     folder: &mut F,
     console: &mut C,
 ) -> Result<(), Trouble>
-    ensures told { VerifyTold (F.file folder.old files.entry.conf.now) (F.file folder.old files.entry.text.now) (F.file folder.old files.entry.ann.now)
+    ensures told { VerifyTold (F.file folder.old conf.now) (F.file folder.old text.now) (F.file folder.old ann.now)
         (F.folder_faults folder.old) (F.folder_faults folder.new) (C.held console.old) (C.held console.new) result }
     ensures apart { OnlyWrites C.left C.read_faults C.write_faults console.old console.new }
     ensures later { F.folder_faults folder.old ≤ F.folder_faults folder.new }
+    ensures disk { IfErr result (λ trouble. trouble ≢ Trouble.DiskFailed) }
     ensures folder { TellsFault (IsErrOf result Trouble.FileFailed) (F.folder_faults folder.old) (F.folder_faults folder.new) }
     ensures write { TellsFault (IsErrOf result Trouble.WriteFault) (C.write_faults console.old) (C.write_faults console.new) }
     ensures read { TellsFault (IsErrOf result Trouble.ReadFault) (C.read_faults console.old) (C.read_faults console.new) }
 {
-    let layer = read_files(alloc, files, folder)?;
+    let layer = read_files(alloc, conf, text, ann, folder)?;
     tell_counts(alloc, console, &layer)
 }

@@ -150,6 +150,7 @@ fn device_of(name: &str) -> Option<Device> {
 pub fn reason(status: u16) -> Option<&'static str> {
     match status {
         200 => Some("OK"),
+        201 => Some("Created"),
         400 => Some("Bad Request"),
         401 => Some("Unauthorized"),
         403 => Some("Forbidden"),
@@ -162,6 +163,7 @@ pub fn reason(status: u16) -> Option<&'static str> {
         500 => Some("Internal Server Error"),
         501 => Some("Not Implemented"),
         503 => Some("Service Unavailable"),
+        507 => Some("Insufficient Storage"),
         _ => None,
     }
 }

@@ -1,9 +1,10 @@
 //! The runs of a case over a world in memory.
 use crate::malformed::Malformed;
 use crate::prepared::{Left, Prepared};
+use annotation_cli::World;
 use annotation_cli::run::run;
-use annotation_cli::{MemoryFolder, World};
 use mark_base::{Bytes, Memory, MemoryLink, MemorySink, Text};
+use program_inputs::MemoryFolder;
 use std::alloc::Global;
 
 /// How many bytes of an input come one by one at most; the rest comes as there is room for it.

@@ -19,7 +19,7 @@ mod worked_answers;
 
 pub use crate::json_body::{docs_answer, number_answer, out_answer, snapped_answer, truth_answer};
 pub use crate::message_fault::MessageFault;
-pub use crate::refusals::book_refusal;
+pub use crate::refusals::{book_refusal, refusal_name};
 pub use crate::worked_answers::{
     examples_of_figures, examples_of_inner_refusals, examples_of_message_faults,
     examples_of_refusals,

@@ -111,8 +111,8 @@ fn decision_name(fault: DecisionFault) -> &'static str
     }
 }
 
-/// The innermost name of a refusal.
-fn name_of(refusal: BookRefusal) -> &'static str
+/// The innermost name of a refusal, as `NotAllowed` or, of a broken rule, the rule's.
+pub fn refusal_name(refusal: BookRefusal) -> &'static str
     ensures { result.now ≡ name_of refusal }
 {
     match refusal {
@@ -143,5 +143,10 @@ pub fn book_refusal(alloc: Global, refusal: BookRefusal, named: &Text) -> Result
     ensures answer { IfOk result (λ answer. answer ≡ book_refusal refusal named.now) }
     ensures status { IfOk result (λ answer. IsStatusCode answer.status) }
 {
-    refusal_of(alloc, status_of(refusal), name_of(refusal), named.text())
+    refusal_of(
+        alloc,
+        status_of(refusal),
+        refusal_name(refusal),
+        named.text(),
+    )
 }

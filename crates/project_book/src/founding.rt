@@ -167,6 +167,7 @@ impl<K: Keeper> Book<K> {
         requires empty { IfSome (K.kept keeper) (λ told. told ≡ []) }
         requires certain { K.doubt keeper ≡ None }
         ensures log { IfOk result (λ book. book.log ≡ founded conf 255 roster) }
+        ensures certain { IfOk result (λ book. K.doubt book.keeper ≡ None) }
         ensures fits { OnOk result (is_too_long conf 255 roster ≡ false) }
         ensures refused { IfErr result (λ back. IsFoundRefusal conf 255 roster back.1) }
         ensures given_back { IfErr result (λ back. K.kept back.0 ≡ K.kept keeper) }
@@ -191,6 +192,7 @@ impl<K: Keeper> Book<K> {
         requires empty { IfSome (K.kept keeper) (λ told. told ≡ []) }
         requires certain { K.doubt keeper ≡ None }
         ensures log { IfOk result (λ book. book.log ≡ founded conf level roster) }
+        ensures certain { IfOk result (λ book. K.doubt book.keeper ≡ None) }
         // The founding is too long for a journal, or the keeper failed, or memory ran out.
         ensures fits { OnOk result (is_too_long conf level roster ≡ false) }
         ensures refused { IfErr result (λ back. IsFoundRefusal conf level roster back.1) }

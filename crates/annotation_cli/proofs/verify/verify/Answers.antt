@@ -1,6 +1,6 @@
 use Rattle.std.proofs.Common.{inr, refl}
-use Rattle.annotation_cli.specs.declared.trouble.Trouble.TheVariants.{FileFailed, ReadFault}
-use Rattle.annotation_cli.proofs.Troubles.{not_err, tells_none}
+use Rattle.program_inputs.specs.declared.trouble.Trouble.TheVariants.{FileFailed, ReadFault}
+use Rattle.program_inputs.proofs.Troubles.{not_err, tells_none}
 use Rattle.annotation_cli.proofs.verify.verify.Goals as goal
 
 pub returns-clause-told : goal.returns-clause-told

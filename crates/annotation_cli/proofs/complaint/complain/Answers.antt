@@ -1,6 +1,0 @@
-use Rattle.std.proofs.Common.{refl, inr, rules}
-use Rattle.annotation_cli.specs.declared.trouble.Trouble.TheVariants.{Memory}
-use Rattle.annotation_cli.proofs.complaint.complain.Goals as goal
-
-pub returns-in-Err-clause-told : goal.returns-in-Err-clause-told
-returns-in-Err-clause-told g c = inr (search rules, c.say-in-Err.ensures.said Memory c.args.verifies refl refl)

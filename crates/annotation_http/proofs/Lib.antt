@@ -1,4 +1,0 @@
-mod FaultLemmas
-mod DeskLemmas
-mod NothingLemmas
-mod SessionLemmas

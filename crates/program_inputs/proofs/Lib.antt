@@ -1,0 +1,2 @@
+mod Documents
+pub mod Troubles

@@ -1,0 +1,24 @@
+//! What a run of the program reads, and what it says where it does not do its job.
+//!
+//! [`Folder`] gives the files that words name; `read_conf_file` and its kin read one and judge it. A [`Trouble`] is why a
+//! run does not do its job, and [`end_run`] says it on a sink, with the status of the run:
+//!
+//! ```text
+//! let conf = read_conf_file(alloc, &mut folder, "schema.conf")?;     // Err(Trouble::Conf { line: 3, what: NameTwice })
+//! let status = end_run(alloc, &mut complaint, done, false);          // "conf line 3: NameTwice\n", 3
+//! ```
+#![tactic(auto)]
+
+mod complaint;
+mod examples;
+mod files;
+mod folder;
+mod memory_folder;
+mod trouble;
+
+pub use crate::complaint::end_run;
+pub use crate::examples::examples_of_complaints;
+pub use crate::files::{read_ann_file, read_columns_file, read_conf_file, read_text_file};
+pub use crate::folder::{Folder, FolderFault};
+pub use crate::memory_folder::MemoryFolder;
+pub use crate::trouble::Trouble;

@@ -1,0 +1,3 @@
+mod ReplyLemmas
+mod EndingLemmas
+mod TriedLemmas

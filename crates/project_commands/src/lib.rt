@@ -1,0 +1,20 @@
+//! The commands of the program that work on a project: what each asks of it, and what that comes to.
+//!
+//! [`try_project`] founds a project in memory on two files and serves the console from its one document:
+//!
+//! ```text
+//! let done = try_project(alloc, "schema.conf", "first.txt", &mut folder, &mut console, &mut steps);
+//! ```
+//!
+//! What a command does is defined in `specs/`, a file each: `Requests.antt` has what a request of a command comes to,
+//! `Serving.antt` a console that is served, `Trying.antt` the command `try`.
+#![tactic(auto)]
+
+mod founding;
+mod laws;
+mod requests;
+mod serving;
+mod trying;
+
+pub use crate::laws::requests_are_granted_or_refused;
+pub use crate::trying::try_project;
