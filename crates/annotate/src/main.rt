@@ -1,18 +1,25 @@
 //! The program: it gives [`run`] the words of its command and the real world, which is the files of the
-//! system, standard input and output as the console, and standard error for the one line of a run that
-//! does not do its job.
+//! system, as a folder and as disks, standard input and output as the console, standard error for the one line of a
+//! run that does not do its job, and the ports of this machine as doors.
 #![tactic(auto)]
 
 mod console;
 mod error_sink;
 mod file_folder;
+mod run;
+mod serving;
+mod tcp_door;
+mod tcp_doors;
+mod tcp_link;
 
 use crate::console::Console;
 use crate::error_sink::ErrorSink;
 use crate::file_folder::FileFolder;
+use crate::run::run;
+use crate::tcp_doors::TcpDoors;
 use annotation_cli::World;
-use annotation_cli::run::run;
 use mark_base::Sink;
+use named_disks::FileDisks;
 use program_inputs::{Trouble, end_run};
 use std::env;
 use std::io::{self, ErrorKind};
@@ -51,10 +58,19 @@ fn main(rt: HostRuntime) -> ExitCode {
         Ok(rt) => FileFolder::new(rt),
         Err(_) => return end_early(&rt, &mut complaint, Trouble::Memory),
     };
+    let disks = match rt.clone() {
+        Ok(rt) => FileDisks::new(rt),
+        Err(_) => return end_early(&rt, &mut complaint, Trouble::Memory),
+    };
+    let mut doors = match rt.clone() {
+        Ok(rt) => TcpDoors::new(rt),
+        Err(_) => return end_early(&rt, &mut complaint, Trouble::Memory),
+    };
     let mut world = World {
         folder,
         console: Console::new(rt.stdin(), rt.stdout()),
         complaint,
+        disks,
     };
-    ExitCode::from(run(rt.alloc(), &words, &mut world))
+    ExitCode::from(run(&rt, rt.alloc(), &words, &mut world, &mut doors))
 }

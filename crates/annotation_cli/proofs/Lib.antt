@@ -1,0 +1,5 @@
+mod FreeLemmas
+mod NumberLemmas
+mod WordLemmas
+mod ImportLemmas
+mod WeakLemmas

@@ -1,4 +1,11 @@
+pub mod Adding
 pub mod Asked
 pub mod ColumnsIn
+pub mod Founding
+pub mod Importing
+pub mod Printing
 pub mod Run
+pub mod Sessions
+pub mod Showing
 pub mod Verify
+pub mod Works

@@ -1,35 +1,80 @@
 -- What a run of the program does, by its words.
-use Rattle.std.specs.Prelude.{◌≡◌, ℕ, Bool, true, false, List, Option, Some, None, Result, Err}
+use Rattle.std.specs.Prelude.{◌≡◌, ◌≢◌, ◌⊎◌, ℕ, Bool, true, false, List, Option, Some, None, Result, Err, MatchResult}
+use Rattle.named_disks.specs.NamedDisks.{KeepsNames, Stored, reads_as}
 use Rattle.program_inputs.specs.declared.trouble.Trouble.{Trouble}
-use Rattle.program_inputs.specs.declared.trouble.Trouble.TheVariants.{Usage}
+use Rattle.program_inputs.specs.declared.trouble.Trouble.TheVariants.{Memory, Usage}
 use Rattle.program_inputs.specs.Troubles.{Ends}
 use Rattle.project_commands.specs.Trying.{TryTold}
-use Rattle.annotation_cli.specs.Asked.{Command, Try, Verify, ColumnsIn, command_of}
+use Rattle.annotation_cli.specs.Printing.{Prints}
+use Rattle.annotation_cli.specs.Founding.{Founds, NotFounded}
+use Rattle.annotation_cli.specs.Adding.{Adds, NotAdded}
+use Rattle.annotation_cli.specs.Importing.{Imports, NotImported}
+use Rattle.annotation_cli.specs.Showing.{Agrees, Exports, NoSnapshot, NotAgreed, NotExported, ShowsSnapshot}
+use Rattle.annotation_cli.specs.Sessions.{SessionTold}
+use Rattle.annotation_cli.specs.Asked.{BookCommand, Found, Add, Import, Export, Agree, Curated, Command, Try, Verify, ColumnsIn, Session, OnBook, book_of, command_of}
 use Rattle.annotation_cli.specs.ColumnsIn.{ColumnsTold}
 use Rattle.annotation_cli.specs.Verify.{VerifyTold}
 
--- words that are no command
-abbrev pub IsNoCommand : (left now before written : Option (List ℕ)) → Result (Unit {0}) Trouble → Type 0
-IsNoCommand left now before written done = (done ≡ Err Usage) × (now ≡ left) × (written ≡ before)
+-- what the devices of a run tell at a moment: how many reads of the folder failed, what is left in the console and what it holds, and what the disks store
+pub record Told : Type 0 where
+  pub folder_faults : ℕ
+  pub left : Option (List ℕ)
+  pub held : Option (List ℕ)
+  pub stored : Option Stored
 
--- what the command of the words came to; but for `try` the console is not read
-abbrev pub Does : (file : List ℕ → Option (Option (List ℕ))) → Option Command → (faults_before faults_now : ℕ) → (left now before written : Option (List ℕ)) → Result (Unit {0}) Trouble → Type 0
-Does file None faults_before faults_now left now before written done = IsNoCommand left now before written done
-Does file (Some (Try conf text)) faults_before faults_now left now before written done =
-    TryTold (file conf) (file text) faults_before faults_now left now before written done
-Does file (Some (Verify conf text ann)) faults_before faults_now left now before written done =
-    VerifyTold (file conf) (file text) (file ann) faults_before faults_now before written done × (now ≡ left)
-Does file (Some (ColumnsIn conf text columns)) faults_before faults_now left now before written done =
-    ColumnsTold (file conf) (file text) (file columns) faults_before faults_now before written done × (now ≡ left)
+-- words that are no command
+abbrev pub IsNoCommand : (old new : Told) → Result (Unit {0}) Trouble → Type 0
+IsNoCommand old new done = (done ≡ Err Usage) × (new.left ≡ old.left) × (new.held ≡ old.held)
+
+-- there was no memory to read the words
+abbrev pub NotRead : (old new : Told) → Result (Unit {0}) Trouble → Type 0
+NotRead old new done = (done ≡ Err Memory) × (new.left ≡ old.left) × (new.held ≡ old.held)
+
+-- what a command on the project of a file found to print, or why it found nothing
+abbrev pub Finds : (file : List ℕ → Option (Option (List ℕ))) → BookCommand → (before now : ℕ) → (stored stored_now : Option Stored) → Result (List ℕ) Trouble → Type 0
+Finds file (Found book conf roster level) before now stored stored_now found =
+    MatchResult found (Founds (file conf) (file roster) level (reads_as stored_now book)) (NotFounded (file conf) (file roster) level (reads_as stored book) before now)
+Finds file (Add book caller name text) before now stored stored_now found =
+    MatchResult found (Adds (reads_as stored book) (reads_as stored_now book) (file text) caller name) (NotAdded (reads_as stored book) (file text) caller name before now)
+Finds file (Import book who name ann) before now stored stored_now found =
+    MatchResult found (Imports (reads_as stored book) (reads_as stored_now book) who name (file ann)) (NotImported (reads_as stored book) who name (file ann) before now)
+Finds file (Export book who name) before now stored stored_now found =
+    MatchResult found (Exports (reads_as stored book) (reads_as stored_now book) who name) (NotExported (reads_as stored book) who name)
+Finds file (Agree book) before now stored stored_now found = MatchResult found (Agrees (reads_as stored book) (reads_as stored_now book)) (NotAgreed (reads_as stored book))
+Finds file (Curated book number) before now stored stored_now found =
+    MatchResult found (ShowsSnapshot (reads_as stored book) (reads_as stored_now book) number) (NoSnapshot (reads_as stored book) number)
+
+-- a command on the project of a file: what it found was printed; the console is not read
+pub record Shows (file : List ℕ → Option (Option (List ℕ))) (command : BookCommand) (old new : Told) (done : Result (Unit {0}) Trouble) : Type 0 where
+  pub found : Result (List ℕ) Trouble
+  pub finds : Finds file command old.folder_faults new.folder_faults old.stored new.stored found
+  pub prints : Prints found old.held new.held done
+  pub unread : new.left ≡ old.left
+
+-- what the command of the words came to; but for `try` and `session` the console is not read
+abbrev pub Does : (file : List ℕ → Option (Option (List ℕ))) → Option Command → (faultless : Type 0) → (old new : Told) → Result (Unit {0}) Trouble → Type 0
+Does file None faultless old new done = IsNoCommand old new done
+Does file (Some (Try conf text)) faultless old new done = TryTold (file conf) (file text) old.folder_faults new.folder_faults old.left new.left old.held new.held done
+Does file (Some (Verify conf text ann)) faultless old new done =
+    VerifyTold (file conf) (file text) (file ann) old.folder_faults new.folder_faults old.held new.held done × (new.left ≡ old.left)
+Does file (Some (ColumnsIn conf text columns)) faultless old new done =
+    ColumnsTold (file conf) (file text) (file columns) old.folder_faults new.folder_faults old.held new.held done × (new.left ≡ old.left)
+Does file (Some (Session book)) faultless old new done = SessionTold faultless (reads_as old.stored book) (reads_as new.stored book) old.left new.left old.held new.held done
+Does file (Some (OnBook command)) faultless old new done = Shows file command old new done
 
 -- the command looks for faults of files, and has a status of its own for those
 abbrev pub looks_for_faults : Option Command → Bool
 looks_for_faults (Some (Verify conf text ann)) = true
+looks_for_faults (Some (OnBook (Import book who name ann))) = true
 looks_for_faults other = false
 
--- a run: what its command came to, and what it says of that on the complaint sink
-pub record Runs (file : List ℕ → Option (Option (List ℕ))) (words : List (List ℕ)) (faults_before faults_now : ℕ)
-    (left now before written : Option (List ℕ)) (said_before said_now : Option (List ℕ)) (said_faults_before said_faults_now : ℕ) (status : ℕ) : Type 0 where
+-- each name but the file of the words' project is as before: what its disk reads as, and whether it is out
+abbrev pub KeepsBut : Option (List ℕ) → Option Stored → Option (List (List ℕ)) → Option Stored → Option (List (List ℕ)) → Type 0
+KeepsBut book = KeepsNames (λ name. Some name ≢ book)
+
+-- a run: what its command came to, and what it says of that on the complaint sink; there may be no memory to read its words
+pub record Runs (file : List ℕ → Option (Option (List ℕ))) (words : List (List ℕ)) (faultless : Type 0) (old new : Told)
+    (said_before said_now : Option (List ℕ)) (said_faults_before said_faults_now : ℕ) (status : ℕ) : Type 0 where
   pub done : Result (Unit {0}) Trouble
-  pub does : Does file (command_of words) faults_before faults_now left now before written done
+  pub does : Does file (command_of words) faultless old new done ⊎ NotRead old new done
   pub ends : Ends (looks_for_faults (command_of words)) done said_before said_now said_faults_before said_faults_now status

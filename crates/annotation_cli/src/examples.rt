@@ -1,6 +1,6 @@
 //! The definitions of words on a few examples.
 ghost use Rattle.std.specs.Prelude.{◌≡◌, ◌∷◌, [], None, Some, codes};
-ghost use Rattle.annotation_cli.specs.Asked.{command_of, ColumnsIn, Try, Verify};
+ghost use Rattle.annotation_cli.specs.Asked.{command_of, Agree, ColumnsIn, Curated, Found, OnBook, Session, Try, Verify};
 
 /// Which words are a command.
 pub fn examples_of_words()
@@ -12,5 +12,13 @@ pub fn examples_of_words()
     ensures three { command_of (codes "verify" ∷ codes "a" ∷ codes "b" ∷ codes "c" ∷ []) ≡ Some (Verify (codes "a") (codes "b") (codes "c")) }
     ensures columns { command_of (codes "columns-in" ∷ codes "a" ∷ codes "b" ∷ codes "c" ∷ []) ≡ Some (ColumnsIn (codes "a") (codes "b") (codes "c")) }
     ensures outward { command_of (codes "columns-out" ∷ codes "a" ∷ codes "b" ∷ codes "c" ∷ []) ≡ None }
+    ensures zeros { command_of (codes "curated" ∷ codes "b" ∷ codes "007" ∷ []) ≡ Some (OnBook (Curated (codes "b") 7)) }
+    ensures signed { command_of (codes "curated" ∷ codes "b" ∷ codes "+7" ∷ []) ≡ None }
+    ensures large { command_of (codes "curated" ∷ codes "b" ∷ codes "4294967296" ∷ []) ≡ None }
+    ensures founded { command_of (codes "found" ∷ codes "b" ∷ codes "c" ∷ codes "r" ∷ []) ≡ Some (OnBook (Found (codes "b") (codes "c") (codes "r") 255)) }
+    ensures levelled { command_of (codes "found-at" ∷ codes "b" ∷ codes "c" ∷ codes "r" ∷ codes "0" ∷ []) ≡ Some (OnBook (Found (codes "b") (codes "c") (codes "r") 0)) }
+    ensures no_level { command_of (codes "found-at" ∷ codes "b" ∷ codes "c" ∷ codes "r" ∷ codes "255" ∷ []) ≡ None }
+    ensures one { command_of (codes "session" ∷ codes "b" ∷ []) ≡ Some (Session (codes "b")) }
+    ensures agreed { command_of (codes "agree" ∷ codes "b" ∷ []) ≡ Some (OnBook (Agree (codes "b"))) }
     ensures two { command_of (codes "verify" ∷ codes "a" ∷ codes "b" ∷ []) ≡ None }
 {}

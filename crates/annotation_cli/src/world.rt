@@ -1,10 +1,11 @@
 //! What a run of the program reaches.
 
-/// What a run of the program reaches: a folder of files, the console as a link, and a sink for the one
-/// line of a run that does not do its job.
+/// What a run of the program reaches: a folder of files, the console as a link, a sink for the one line of a run that does
+/// not do its job, and the disks of projects by the names of their files.
 #[derive(Debug, Drop)]
-pub struct World<F, C, P> {
+pub struct World<F, C, P, D> {
     pub folder: F,
     pub console: C,
     pub complaint: P,
+    pub disks: D,
 }

@@ -21,6 +21,8 @@ pub struct Written<'f> {
     pub line: usize,
     /// What stands behind `words:`.
     pub words: Option<&'f str>,
+    /// What stands behind each `first:`, in turn.
+    pub firsts: Vec<&'f str>,
     pub sections: Vec<Section<'f>>,
     /// The first line that has no form.
     pub flaw: Option<Malformed>,
@@ -56,6 +58,7 @@ impl<'f> Written<'f> {
             name,
             line,
             words: None,
+            firsts: Vec::new(alloc),
             sections: Vec::new(alloc),
             flaw: None,
         }
@@ -148,13 +151,16 @@ impl<'f> Reader<'f> {
         self.current.take_section(section)
     }
 
-    /// Takes a line that stands in no section: the words, a comment or a blank line.
-    fn take_loose(&mut self, number: usize, line: &'f str) {
+    /// Takes a line that stands in no section: the words, those of a run before, a comment or a blank line.
+    fn take_loose(&mut self, number: usize, line: &'f str) -> Result<(), Memory> {
         if let Some(words) = line.strip_prefix("words:") {
             self.current.take_words(number, words);
+        } else if let Some(words) = line.strip_prefix("first: ") {
+            self.current.firsts.push(words)?;
         } else if !line.is_empty() && !line.starts_with('#') {
             self.current.note(number, Flaw::NoSection);
         }
+        Ok(())
     }
 
     /// Takes a line.
@@ -167,7 +173,7 @@ impl<'f> Reader<'f> {
         }
         match &mut self.open {
             Some(section) => section.lines.push(line)?,
-            None => self.take_loose(number, line),
+            None => self.take_loose(number, line)?,
         }
         Ok(())
     }

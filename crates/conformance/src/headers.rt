@@ -18,6 +18,7 @@ pub enum Device {
     Read,
     Write,
     Complaint,
+    Disks,
 }
 
 /// A request: its first line and its fields. The body stands in the section.
@@ -142,6 +143,7 @@ fn device_of(name: &str) -> Option<Device> {
         "read" => Some(Device::Read),
         "write" => Some(Device::Write),
         "complaint" => Some(Device::Complaint),
+        "disks" => Some(Device::Disks),
         _ => None,
     }
 }

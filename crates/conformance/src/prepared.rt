@@ -22,6 +22,7 @@ pub struct Fails {
     pub read: Vec<u64>,
     pub write: Vec<u64>,
     pub complaint: Vec<u64>,
+    pub disks: Vec<u64>,
 }
 
 impl Fails {
@@ -31,13 +32,23 @@ impl Fails {
             && self.read.is_empty()
             && self.write.is_empty()
             && self.complaint.is_empty()
+            && self.disks.is_empty()
     }
+}
+
+/// A run before that of a case: its words, and the name of the file that comes in on its console, if one does.
+#[derive(Debug, Drop)]
+pub struct First {
+    pub words: Vec<String>,
+    pub input: Option<String>,
 }
 
 /// A case: the words, the files and the input of its run, and what the run has to leave.
 #[derive(Debug, Drop)]
 pub struct Prepared {
     pub words: Vec<String>,
+    /// The runs before it, over the same files and disks.
+    pub firsts: Vec<First>,
     pub files: Vec<(Text, Bytes)>,
     pub input: Vec<u8>,
     /// Whether the input comes in one piece only.
@@ -80,6 +91,11 @@ fn words_of<'f>(
             flaw: Flaw::NoWords,
         });
     };
+    Ok(split_words(alloc, text)?)
+}
+
+/// The words of a text, which are separated by single spaces; an empty text has none.
+fn split_words(alloc: Global, text: &str) -> Result<Vec<String>, Memory> {
     let mut words = Vec::new(alloc);
     if !text.is_empty() {
         for word in text.split(' ') {
@@ -87,6 +103,36 @@ fn words_of<'f>(
         }
     }
     Ok(words)
+}
+
+/// A run before: its words, and behind ` < ` the file that comes in on its console.
+fn first_of(alloc: Global, text: &str) -> Result<First, Memory> {
+    match text.split_once(" < ") {
+        Some((words, input)) => Ok(First {
+            words: split_words(alloc, words)?,
+            input: Some(String::from_str(alloc, input)?),
+        }),
+        None => Ok(First {
+            words: split_words(alloc, text)?,
+            input: None,
+        }),
+    }
+}
+
+/// The runs before that of a case: those that all cases have, and then its own.
+fn firsts_of<'f>(
+    alloc: Global,
+    case: &Written<'f>,
+    common: &Written<'f>,
+) -> Result<Vec<First>, Memory> {
+    let mut firsts = Vec::new(alloc);
+    for text in &common.firsts {
+        firsts.push(first_of(alloc, text)?)?;
+    }
+    for text in &case.firsts {
+        firsts.push(first_of(alloc, text)?)?;
+    }
+    Ok(firsts)
 }
 
 /// Appends the files among these sections.
@@ -208,6 +254,7 @@ pub fn prepare<'f>(
         read: fails_of(alloc, case, common, Device::Read)?,
         write: fails_of(alloc, case, common, Device::Write)?,
         complaint: fails_of(alloc, case, common, Device::Complaint)?,
+        disks: fails_of(alloc, case, common, Device::Disks)?,
     };
     let expected = Left {
         status: status_of(case, common),
@@ -215,8 +262,10 @@ pub fn prepare<'f>(
         complaint: raw_bytes(alloc, case, common, Called::Complaint)?,
     };
     let whole = section_of(case, common, Called::Whole).is_some() || !fails.is_none();
+    let firsts = firsts_of(alloc, case, common)?;
     Ok(Prepared {
         words,
+        firsts,
         files,
         input,
         whole,

@@ -4,7 +4,7 @@ use Rattle.std.specs.Prelude.{◌≢◌, IfErr, IsErrOf}
 use Rattle.mark_base.specs.Streams.{TellsFault}
 use Rattle.program_inputs.specs.Troubles.{Complains, Says, status_of}
 use Rattle.program_inputs.specs.declared.trouble.Trouble.{Trouble}
-use Rattle.program_inputs.specs.declared.trouble.Trouble.TheVariants.{Usage, Conf, Ann, Columns, TextNotUtf8, TextTooLong, FileAbsent, FileTooLong, FileFailed, NotAJournal, NewerVersion, Damaged, AlreadyThere, BookTooLong, BadEntry, Refused, DiskFailed, Cut, BadHead, NeedsLength, TooLarge, Encoded, Spent, ReadFault, WriteFault, Memory}
+use Rattle.program_inputs.specs.declared.trouble.Trouble.TheVariants.{Usage, Conf, Ann, Columns, ColumnsOut, Roster, TextNotUtf8, TextTooLong, FileAbsent, FileTooLong, FileFailed, NotAJournal, NewerVersion, Damaged, AlreadyThere, BookTooLong, BadEntry, Refused, DiskFailed, DoorFailed, Cut, BadHead, NeedsLength, TooLarge, Encoded, Spent, ReadFault, WriteFault, Memory}
 
 -- a success is no error
 pub not_err : {X : Type 0} {done : Result X Trouble} {value : X} {named : Trouble} → done ≡ Ok value → done ≡ Err named → ⊥
@@ -33,6 +33,8 @@ status_some false (Conf line what) is = absurd (omega (arith, is))
 status_some true (Ann line what) is = absurd (omega (arith, is))
 status_some false (Ann line what) is = absurd (omega (arith, is))
 status_some verifies (Columns line what) is = absurd (omega (arith, is))
+status_some verifies (ColumnsOut fault) is = absurd (omega (arith, is))
+status_some verifies (Roster fault) is = absurd (omega (arith, is))
 status_some verifies Usage is = absurd (omega (arith, is))
 status_some verifies TextNotUtf8 is = absurd (omega (arith, is))
 status_some verifies TextTooLong is = absurd (omega (arith, is))
@@ -47,6 +49,7 @@ status_some verifies (BookTooLong bytes) is = absurd (omega (arith, is))
 status_some verifies (BadEntry number) is = absurd (omega (arith, is))
 status_some verifies (Refused refusal) is = absurd (omega (arith, is))
 status_some verifies DiskFailed is = absurd (omega (arith, is))
+status_some verifies DoorFailed is = absurd (omega (arith, is))
 status_some verifies Cut is = absurd (omega (arith, is))
 status_some verifies BadHead is = absurd (omega (arith, is))
 status_some verifies NeedsLength is = absurd (omega (arith, is))

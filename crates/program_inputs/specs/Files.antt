@@ -14,7 +14,10 @@ use Rattle.token_columns.specs.declared.column_fault.ColumnFault.TheVariants as 
 use Rattle.token_columns.specs.ReadColumns.{read_of}
 use Rattle.token_columns.specs.ColumnFiles.{IsColumns}
 use Rattle.program_inputs.specs.declared.trouble.Trouble.{Trouble}
-use Rattle.program_inputs.specs.declared.trouble.Trouble.TheVariants.{Conf, Ann, Columns, TextNotUtf8, TextTooLong, FileAbsent, FileTooLong, FileFailed, Memory}
+use Rattle.entry_bytes.specs.declared.person.Person.{Person}
+use Rattle.roster_file.specs.declared.roster_read.RosterRead.{RosterRead}
+use Rattle.roster_file.specs.RosterFiles.{roster_of}
+use Rattle.program_inputs.specs.declared.trouble.Trouble.TheVariants.{Conf, Ann, Columns, Roster, TextNotUtf8, TextTooLong, FileAbsent, FileTooLong, FileFailed, Memory}
 
 -- a file has these bytes, where it is told; one that is not told may have any
 abbrev pub IsFile : Option (Option (List ℕ)) → List ℕ → Type 0
@@ -44,6 +47,23 @@ pub record HasConfFault (file : Option (Option (List ℕ))) (line : ℕ) (what :
 abbrev pub ConfRefused : Option (Option (List ℕ)) → ℕ → ℕ → Trouble → Type 0
 ConfRefused file before now (Conf line what) = HasConfFault file line what
 ConfRefused file before now trouble = FileRefused file 4194304 before now trouble
+
+-- a file names people, in the order of their names
+pub record HasRoster (file : Option (Option (List ℕ))) (people : List Person) : Type 0 where
+  pub bytes : List ℕ
+  pub read : IsFile file bytes
+  pub named : roster_of bytes ≡ Ok people
+
+-- a file has a first fault as a roster
+pub record HasRosterFault (file : Option (Option (List ℕ))) (fault : RosterRead) : Type 0 where
+  pub bytes : List ℕ
+  pub read : IsFile file bytes
+  pub told : roster_of bytes ≡ Err fault
+
+-- why a file gave no people
+abbrev pub RosterRefused : Option (Option (List ℕ)) → ℕ → ℕ → Trouble → Type 0
+RosterRefused file before now (Roster fault) = HasRosterFault file fault
+RosterRefused file before now trouble = FileRefused file 65536 before now trouble
 
 -- a file holds the text of a document, of at most 200,000 characters
 pub record HoldsText (file : Option (Option (List ℕ))) (text : List ℕ) : Type 0 where

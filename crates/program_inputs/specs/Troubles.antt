@@ -10,10 +10,19 @@ use Rattle.ann_reader.specs.declared.ann_fault.AnnWhat.TheVariants as ann
 use Rattle.layer_model.specs.RuleNames.{rule_name}
 use Rattle.token_columns.specs.declared.column_fault.ColumnWhat.{ColumnWhat}
 use Rattle.token_columns.specs.declared.column_fault.ColumnWhat.TheVariants as columns
+use Rattle.token_columns.specs.declared.column_fault.ColumnOut.{ColumnOut}
+use Rattle.token_columns.specs.declared.column_fault.ColumnOut.TheVariants as out
+use Rattle.token_columns.specs.FaultNames.{out_name}
+use Rattle.mark_base.specs.declared.ann_id.AnnId.{AnnId}
+use Rattle.layer_core.specs.ShownNames.{id_text}
+use Rattle.project_machine.specs.declared.roster_fault.RosterFault.{RosterFault}
+use Rattle.project_machine.specs.declared.roster_fault.RosterFault.TheVariants as people
+use Rattle.roster_file.specs.declared.roster_read.RosterRead.{RosterRead}
+use Rattle.roster_file.specs.declared.roster_read.RosterRead.TheVariants as roster
 use Rattle.program_inputs.specs.declared.trouble.Trouble.{Trouble}
 use Rattle.project_machine.specs.declared.book_refusal.BookRefusal.{BookRefusal}
 use Rattle.json_answers.specs.Refusals.{name_of}
-use Rattle.program_inputs.specs.declared.trouble.Trouble.TheVariants.{Usage, Conf, Ann, Columns, TextNotUtf8, TextTooLong, FileAbsent, FileTooLong, FileFailed, NotAJournal, NewerVersion, Damaged, AlreadyThere, BookTooLong, BadEntry, Refused, DiskFailed, Cut, BadHead, NeedsLength, TooLarge, Encoded, Spent, ReadFault, WriteFault, Memory}
+use Rattle.program_inputs.specs.declared.trouble.Trouble.TheVariants.{Usage, Conf, Ann, Columns, ColumnsOut, Roster, TextNotUtf8, TextTooLong, FileAbsent, FileTooLong, FileFailed, NotAJournal, NewerVersion, Damaged, AlreadyThere, BookTooLong, BadEntry, Refused, DiskFailed, DoorFailed, Cut, BadHead, NeedsLength, TooLarge, Encoded, Spent, ReadFault, WriteFault, Memory}
 
 -- what is said of a fault of an .ann file: its name, and the place or the rule that it carries
 abbrev pub ann_name : AnnWhat → List ℕ
@@ -41,7 +50,7 @@ column_name columns.TooFew = codes "TooFew"
 abbrev pub at_line : List ℕ → ℕ → List ℕ → List ℕ
 at_line file line name = file ++ (codes " line " ++ (decimal line ++ (codes ": " ++ (name ++ codes "\n"))))
 
--- the line of a trouble that a number tells more of, as `journal: NewerVersion 9`
+-- a line of a label and a number, as `journal: NewerVersion 9`
 abbrev pub with_number : List ℕ → ℕ → List ℕ
 with_number label number = label ++ (decimal number ++ codes "\n")
 
@@ -49,12 +58,46 @@ with_number label number = label ++ (decimal number ++ codes "\n")
 abbrev pub refused_line : BookRefusal → List ℕ
 refused_line refusal = codes "refused: " ++ (name_of refusal ++ codes "\n")
 
+-- the line of a layer that columns do not show, as `columns: Shared T2`
+abbrev pub with_id : List ℕ → AnnId → List ℕ
+with_id name id = codes "columns: " ++ (name ++ (codes " " ++ (id_text id ++ codes "\n")))
+
+-- the same, with the annotation at fault where one is
+abbrev pub out_line : ColumnOut → List ℕ
+out_line (out.OtherThere id) = with_id (out_name (out.OtherThere id)) id
+out_line (out.Fragmented id) = with_id (out_name (out.Fragmented id)) id
+out_line (out.Unaligned id) = with_id (out_name (out.Unaligned id)) id
+out_line (out.Shared id) = with_id (out_name (out.Shared id)) id
+out_line (out.Numbered id) = with_id (out_name (out.Numbered id)) id
+out_line fault = codes "columns: " ++ (out_name fault ++ codes "\n")
+
+-- the line of a fault of a row of a roster, as `roster row 2: BadRole`
+abbrev pub at_row : ℕ → List ℕ → List ℕ
+at_row row name = codes "roster row " ++ (decimal row ++ (codes ": " ++ (name ++ codes "\n")))
+
+-- the line of people that make no roster, as `roster: NameTwice 2`
+abbrev pub people_line : RosterFault → List ℕ
+people_line (people.NameTwice number) = with_number (codes "roster: NameTwice ") number
+people_line people.TooMany = codes "roster: TooMany\n"
+people_line people.Lacking = codes "roster: Lacking\n"
+people_line people.Memory = []
+
+-- the line of the first fault of a roster
+abbrev pub roster_line : RosterRead → List ℕ
+roster_line (roster.BadRow row) = at_row row (codes "BadRow")
+roster_line (roster.BadName row) = at_row row (codes "BadName")
+roster_line (roster.BadRole row) = at_row row (codes "BadRole")
+roster_line (roster.Roster fault) = people_line fault
+roster_line roster.Memory = []
+
 -- the line of a trouble that carries nothing
 abbrev pub fixed_line : Trouble → Option (List ℕ)
 fixed_line Usage = Some (codes "usage\n")
 fixed_line (Conf line what) = None
 fixed_line (Ann line what) = None
 fixed_line (Columns line what) = None
+fixed_line (ColumnsOut fault) = None
+fixed_line (Roster fault) = None
 fixed_line TextNotUtf8 = Some (codes "text: NotUtf8\n")
 fixed_line TextTooLong = Some (codes "text: TooLong\n")
 fixed_line FileAbsent = Some (codes "file: Absent\n")
@@ -68,6 +111,7 @@ fixed_line (BookTooLong bytes) = None
 fixed_line (BadEntry number) = None
 fixed_line (Refused refusal) = None
 fixed_line DiskFailed = Some (codes "disk: Failed\n")
+fixed_line DoorFailed = Some (codes "door: Failed\n")
 fixed_line Cut = Some (codes "input: Cut\n")
 fixed_line BadHead = Some (codes "input: BadHead\n")
 fixed_line NeedsLength = Some (codes "input: NeedsLength\n")
@@ -83,6 +127,8 @@ abbrev pub made_line : Trouble → List ℕ
 made_line (Conf line what) = at_line (codes "conf") line (conf_name what)
 made_line (Ann line what) = at_line (codes "ann") line (ann_name what)
 made_line (Columns line what) = at_line (codes "columns") line (column_name what)
+made_line (ColumnsOut fault) = out_line fault
+made_line (Roster fault) = roster_line fault
 made_line (NewerVersion version) = with_number (codes "journal: NewerVersion ") version
 made_line (Damaged number) = with_number (codes "journal: Damaged ") number
 made_line (AlreadyThere length) = with_number (codes "journal: AlreadyThere ") length
@@ -101,6 +147,8 @@ status_of verifies Usage = 2
 status_of verifies (Conf line what) = if verifies then 1 else 3
 status_of verifies (Ann line what) = if verifies then 1 else 3
 status_of verifies (Columns line what) = 3
+status_of verifies (ColumnsOut fault) = 3
+status_of verifies (Roster fault) = 3
 status_of verifies TextNotUtf8 = 3
 status_of verifies TextTooLong = 3
 status_of verifies FileAbsent = 3
@@ -114,6 +162,7 @@ status_of verifies (BookTooLong bytes) = 3
 status_of verifies (BadEntry number) = 3
 status_of verifies (Refused refusal) = 3
 status_of verifies DiskFailed = 4
+status_of verifies DoorFailed = 5
 status_of verifies Cut = 3
 status_of verifies BadHead = 3
 status_of verifies NeedsLength = 3

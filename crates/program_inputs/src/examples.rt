@@ -2,7 +2,12 @@
 ghost use Rattle.std.specs.Prelude.{◌≡◌, true, false, codes};
 ghost use Rattle.annotation_conf.specs.declared.conf_fault.ConfWhat.{ConfWhat};
 ghost use Rattle.layer_model.specs.declared.rule.Rule.{Rule};
+ghost use Rattle.mark_base.specs.declared.ann_id.Kind.{Kind};
+ghost use Rattle.mark_base.specs.ReadIds.{id_at};
+ghost use Rattle.token_columns.specs.declared.column_fault.ColumnOut.{ColumnOut};
 ghost use Rattle.token_columns.specs.declared.column_fault.ColumnWhat.{ColumnWhat};
+ghost use Rattle.roster_file.specs.declared.roster_read.RosterRead.{RosterRead};
+ghost use Rattle.project_machine.specs.declared.roster_fault.RosterFault.{RosterFault};
 ghost use Rattle.project_machine.specs.declared.book_refusal.BookRefusal.{BookRefusal};
 ghost use Rattle.program_inputs.specs.declared.trouble.Trouble.{Trouble};
 ghost use Rattle.program_inputs.specs.Troubles.{line_of, status_of};
@@ -13,6 +18,11 @@ pub fn examples_of_complaints()
     ensures absent { line_of Trouble.FileAbsent ≡ codes "file: Absent\n" }
     ensures cut { line_of Trouble.Cut ≡ codes "input: Cut\n" }
     ensures orphan { line_of (Trouble.Columns 2 ColumnWhat.Orphan) ≡ codes "columns line 2: Orphan\n" }
+    ensures shared { line_of (Trouble.ColumnsOut (ColumnOut.Shared (id_at Kind.Text 2))) ≡ codes "columns: Shared T2\n" }
+    ensures role { line_of (Trouble.Roster (RosterRead.BadRole 2)) ≡ codes "roster row 2: BadRole\n" }
+    ensures twice { line_of (Trouble.Roster (RosterRead.Roster (RosterFault.NameTwice 2))) ≡ codes "roster: NameTwice 2\n" }
+    ensures lacking { line_of (Trouble.Roster (RosterRead.Roster RosterFault.Lacking)) ≡ codes "roster: Lacking\n" }
+    ensures door { line_of Trouble.DoorFailed ≡ codes "door: Failed\n" }
     ensures version { line_of (Trouble.NewerVersion 9) ≡ codes "journal: NewerVersion 9\n" }
     ensures refused { line_of (Trouble.Refused BookRefusal.DocumentThere) ≡ codes "refused: DocumentThere\n" }
     ensures rule { line_of (Trouble.Refused (BookRefusal.Broken Rule.DeskFull)) ≡ codes "refused: DeskFull\n" }

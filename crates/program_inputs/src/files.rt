@@ -1,7 +1,7 @@
-//! The files of a command: a configuration, a text, an .ann file and a column file.
+//! The files of a command: a configuration, a roster, a text, an .ann file and a column file.
 ghost use Rattle.std.specs.Prelude.{◌≡◌, ◌≢◌, ◌≤◌, ℕ, List, length, chars, IfOk, IfErr, IsErrOf};
 ghost use Rattle.mark_base.specs.Streams.{TellsFault};
-ghost use Rattle.program_inputs.specs.Files.{AnnRefused, ColumnsRefused, ConfRefused, FileRefused, HasAnn, HasColumns, HasConf, HoldsText, IsFile, TextRefused};
+ghost use Rattle.program_inputs.specs.Files.{AnnRefused, ColumnsRefused, ConfRefused, FileRefused, HasAnn, HasColumns, HasConf, HoldsText, IsFile, HasRoster, RosterRefused, TextRefused};
 
 use crate::folder::{Folder, FolderFault};
 use crate::trouble::Trouble;
@@ -10,12 +10,16 @@ use annotation_conf::{Conf, ConfFault, read_conf};
 use char_documents::{Doc, DocFault};
 use layer_model::Layer;
 use mark_base::Bytes;
+use roster_file::{Roster, RosterRead, read_roster};
 use std::alloc::Global;
 use std::str;
 use token_columns::{ColumnFault, read_columns};
 
 /// How many bytes a configuration has at most.
 const LONGEST_CONF: u64 = 4_194_304;
+
+/// How many bytes a roster has at most.
+const LONGEST_ROSTER: u64 = 65_536;
 
 /// How many bytes a text has at most: 200,000 characters of four bytes.
 const LONGEST_TEXT: u64 = 800_000;
@@ -68,6 +72,29 @@ pub fn read_conf_file<F: Folder>(alloc: Global, folder: &mut F, name: &str) -> R
         Ok(conf) => Ok(conf),
         Err(ConfFault::At { line, what }) => Err(Trouble::Conf { line, what }),
         Err(ConfFault::Memory) => Err(Trouble::Memory),
+    }
+}
+
+/// The people that a file names, or its first fault. Cost: see [`read_roster`].
+pub fn read_roster_file<F: Folder>(
+    alloc: Global,
+    folder: &mut F,
+    name: &str,
+) -> Result<Roster, Trouble>
+    ensures ok { IfOk result (HasRoster (F.file folder.old name.now)) }
+    ensures err { IfErr result (RosterRefused (F.file folder.old name.now) (F.folder_faults folder.old) (F.folder_faults folder.new)) }
+    ensures kept { (other : List ℕ) → F.file folder.new other ≡ F.file folder.old other }
+    ensures later { F.folder_faults folder.old ≤ F.folder_faults folder.new }
+    ensures cause { TellsFault (IsErrOf result Trouble.FileFailed) (F.folder_faults folder.old) (F.folder_faults folder.new) }
+    ensures no_read { IfErr result (λ trouble. trouble ≢ Trouble.ReadFault) }
+    ensures no_write { IfErr result (λ trouble. trouble ≢ Trouble.WriteFault) }
+    ensures no_disk { IfErr result (λ trouble. trouble ≢ Trouble.DiskFailed) }
+{
+    let bytes = read_file(alloc, folder, name, LONGEST_ROSTER)?;
+    match read_roster(alloc, bytes.items()) {
+        Ok(roster) => Ok(roster),
+        Err(RosterRead::Memory) => Err(Trouble::Memory),
+        Err(fault) => Err(Trouble::Roster { fault }),
     }
 }
 

@@ -18,7 +18,9 @@ mod trouble;
 
 pub use crate::complaint::end_run;
 pub use crate::examples::examples_of_complaints;
-pub use crate::files::{read_ann_file, read_columns_file, read_conf_file, read_text_file};
+pub use crate::files::{
+    read_ann_file, read_columns_file, read_conf_file, read_roster_file, read_text_file,
+};
 pub use crate::folder::{Folder, FolderFault};
 pub use crate::memory_folder::MemoryFolder;
-pub use crate::trouble::Trouble;
+pub use crate::trouble::{Trouble, with_number};

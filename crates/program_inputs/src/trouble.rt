@@ -1,15 +1,17 @@
 //! Why a run does not do its job, and the line and the status that say so.
 ghost use Rattle.std.specs.Prelude.{◌≡◌, ◌++◌, IfOk, codes, decimal, option_map, string_bytes};
 ghost use Rattle.program_inputs.specs.declared.trouble.Trouble.TheVariants;
-ghost use Rattle.program_inputs.specs.Troubles.{ann_name, at_line, column_name, fixed_line, made_line, refused_line, status_of, with_number};
+ghost use Rattle.program_inputs.specs.Troubles.{ann_name, at_line, at_row, column_name, fixed_line, made_line, out_line, people_line, refused_line, roster_line, status_of, with_id, with_number};
 
 use ann_reader::AnnWhat;
 use annotation_conf::ConfWhat;
 use json_answers::refusal_name;
-use mark_base::Memory;
+use layer_core::id_text;
+use mark_base::{AnnId, Memory};
 use project_machine::BookRefusal;
+use roster_file::{RosterFault, RosterRead};
 use std::alloc::Global;
-use token_columns::ColumnWhat;
+use token_columns::{ColumnOut, ColumnWhat};
 
 /// Why a run does not do its job.
 #[derive(Clone, Copy, Debug)]
@@ -22,6 +24,10 @@ pub enum Trouble {
     Ann { line: u32, what: AnnWhat },
     /// The first fault of a column file, on a line that is counted from 1.
     Columns { line: u32, what: ColumnWhat },
+    /// A layer that columns do not show, and why.
+    ColumnsOut { fault: ColumnOut },
+    /// The first fault of a roster.
+    Roster { fault: RosterRead },
     /// A text that is not UTF-8.
     TextNotUtf8,
     /// A text of more than 200,000 characters.
@@ -48,6 +54,8 @@ pub enum Trouble {
     Refused { refusal: BookRefusal },
     /// A fault of a disk, which it or what hands it out counted.
     DiskFailed,
+    /// A fault of the door at which connections are taken in, which it or what hands it out counted.
+    DoorFailed,
     /// The input ended inside a message.
     Cut,
     /// The bytes can become no head of a message.
@@ -111,8 +119,8 @@ fn column_name(alloc: Global, what: ColumnWhat) -> Result<String, Memory>
     })
 }
 
-/// The line of a trouble that a number tells more of.
-fn with_number(alloc: Global, label: &str, number: u64) -> Result<String, Memory>
+/// A line of a label and a number.
+pub fn with_number(alloc: Global, label: &str, number: u64) -> Result<String, Memory>
     ensures { IfOk result (λ text. string_bytes text ≡ with_number label.now number) }
 {
     Ok(format!(in alloc; "{label}{number}\n")?)
@@ -133,6 +141,62 @@ fn at_line(alloc: Global, file: &str, line: u32, name: &str) -> Result<String, M
     Ok(format!(in alloc; "{file} line {line}: {name}\n")?)
 }
 
+/// The line of a layer that columns do not show, by the annotation that is at fault.
+fn with_id(alloc: Global, name: &str, id: AnnId) -> Result<String, Memory>
+    ensures { IfOk result (λ text. string_bytes text ≡ with_id name.now id) }
+{
+    let id = id_text(alloc, id)?;
+    let shown = id.text();
+    Ok(format!(in alloc; "columns: {name} {shown}\n")?)
+}
+
+/// The line of a layer that columns do not show.
+fn out_line(alloc: Global, fault: ColumnOut) -> Result<String, Memory>
+    ensures { IfOk result (λ text. string_bytes text ≡ out_line fault) }
+{
+    let name = fault.name();
+    match fault {
+        ColumnOut::OtherThere(id) => with_id(alloc, name, id),
+        ColumnOut::Fragmented(id) => with_id(alloc, name, id),
+        ColumnOut::Unaligned(id) => with_id(alloc, name, id),
+        ColumnOut::Shared(id) => with_id(alloc, name, id),
+        ColumnOut::Numbered(id) => with_id(alloc, name, id),
+        _ => Ok(format!(in alloc; "columns: {name}\n")?),
+    }
+}
+
+/// The line of a fault of a row of a roster.
+fn at_row(alloc: Global, row: u32, name: &str) -> Result<String, Memory>
+    ensures { IfOk result (λ text. string_bytes text ≡ at_row row name.now) }
+{
+    Ok(format!(in alloc; "roster row {row}: {name}\n")?)
+}
+
+/// The line of people that make no roster.
+fn people_line(alloc: Global, fault: RosterFault) -> Result<String, Memory>
+    ensures { IfOk result (λ text. string_bytes text ≡ people_line fault) }
+{
+    match fault {
+        RosterFault::NameTwice(number) => with_number(alloc, "roster: NameTwice ", number as u64),
+        RosterFault::TooMany => Ok(String::from_str(alloc, "roster: TooMany\n")?),
+        RosterFault::Lacking => Ok(String::from_str(alloc, "roster: Lacking\n")?),
+        RosterFault::Memory => Ok(String::new(alloc)),
+    }
+}
+
+/// The line of the first fault of a roster.
+fn roster_line(alloc: Global, fault: RosterRead) -> Result<String, Memory>
+    ensures { IfOk result (λ text. string_bytes text ≡ roster_line fault) }
+{
+    match fault {
+        RosterRead::BadRow(row) => at_row(alloc, row, "BadRow"),
+        RosterRead::BadName(row) => at_row(alloc, row, "BadName"),
+        RosterRead::BadRole(row) => at_row(alloc, row, "BadRole"),
+        RosterRead::Roster(fault) => people_line(alloc, fault),
+        RosterRead::Memory => Ok(String::new(alloc)),
+    }
+}
+
 impl Trouble {
     /// The status of a run that ends so; a fault of the configuration or the .ann file has a status of
     /// its own where the command is one that looks for such faults.
@@ -143,7 +207,7 @@ impl Trouble {
             Trouble::Conf { .. } | Trouble::Ann { .. } => { if verifies { 1 } else { 3 } }
             Trouble::Usage => 2,
             Trouble::FileFailed | Trouble::DiskFailed => 4,
-            Trouble::ReadFault => 5,
+            Trouble::ReadFault | Trouble::DoorFailed => 5,
             Trouble::WriteFault => 6,
             Trouble::Memory => 7,
             _ => 3,
@@ -159,6 +223,8 @@ impl Trouble {
             Trouble::Conf { .. } => None,
             Trouble::Ann { .. } => None,
             Trouble::Columns { .. } => None,
+            Trouble::ColumnsOut { .. } => None,
+            Trouble::Roster { .. } => None,
             Trouble::TextNotUtf8 => Some("text: NotUtf8\n"),
             Trouble::TextTooLong => Some("text: TooLong\n"),
             Trouble::FileAbsent => Some("file: Absent\n"),
@@ -172,6 +238,7 @@ impl Trouble {
             Trouble::BadEntry { .. } => None,
             Trouble::Refused { .. } => None,
             Trouble::DiskFailed => Some("disk: Failed\n"),
+            Trouble::DoorFailed => Some("door: Failed\n"),
             Trouble::Cut => Some("input: Cut\n"),
             Trouble::BadHead => Some("input: BadHead\n"),
             Trouble::NeedsLength => Some("input: NeedsLength\n"),
@@ -198,6 +265,8 @@ impl Trouble {
                 let name = column_name(alloc, what)?;
                 at_line(alloc, "columns", line, &name)
             }
+            Trouble::ColumnsOut { fault } => out_line(alloc, fault),
+            Trouble::Roster { fault } => roster_line(alloc, fault),
             Trouble::NewerVersion { version } => {
                 with_number(alloc, "journal: NewerVersion ", version as u64)
             }

@@ -14,8 +14,8 @@ use project_journal::MemoryKeeper;
 use project_state::Roster;
 use std::alloc::Global;
 
-/// The slug of a text that is one.
-pub(crate) fn slug_of(alloc: Global, text: &str) -> Result<Slug, Memory>
+/// The slug of a text that is one; of another text want of memory is answered.
+pub fn slug_of(alloc: Global, text: &str) -> Result<Slug, Memory>
     ensures { IfOk result (λ slug. slug ≡ text.now) }
 {
     match Slug::new(alloc, text) {

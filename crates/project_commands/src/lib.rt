@@ -16,5 +16,8 @@ mod requests;
 mod serving;
 mod trying;
 
+pub use crate::founding::slug_of;
 pub use crate::laws::requests_are_granted_or_refused;
+pub use crate::requests::{add_text, ask_granted, check_out};
+pub use crate::serving::serve;
 pub use crate::trying::try_project;

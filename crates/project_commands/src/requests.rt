@@ -1,5 +1,5 @@
 //! Requests of commands to a project.
-ghost use Rattle.std.specs.Prelude.{◌≡◌, [], IfErr, IfOk, IsErrOf};
+ghost use Rattle.std.specs.Prelude.{◌≡◌, ◌≢◌, [], None, IfErr, IfOk, IsErrOf, OnOk};
 ghost use Rattle.book_answers.specs.Answers.{CanBeShown};
 ghost use Rattle.project_machine.specs.declared.book_refusal.BookRefusal.TheVariants as no;
 ghost use Rattle.project_machine.specs.Asking.{IsStep};
@@ -25,7 +25,10 @@ use std::sync::ledger::Ledger;
 
 /// What the refusal of a project comes to.
 pub(crate) fn trouble_of(refusal: BookRefusal) -> Trouble
-    ensures { result ≡ trouble_of refusal }
+    ensures value { result ≡ trouble_of refusal }
+    ensures no_file { result ≢ Trouble.FileFailed }
+    ensures no_read { result ≢ Trouble.ReadFault }
+    ensures no_write { result ≢ Trouble.WriteFault }
 {
     match refusal {
         BookRefusal::Keeper => Trouble::DiskFailed,
@@ -46,6 +49,7 @@ pub(crate) fn ask<K: Keeper, G: Ledger>(
     ensures opened { CanBeOpened (answer_of result) }
     ensures shown { CanBeShown (answer_of result) }
     ensures keeper { TellsKeeper K.faults K.faultless book.old.keeper book.new.keeper (answer_of result ≡ Refused no.Keeper []) }
+    ensures certain { K.doubt book.old.keeper ≡ None → answer_of result ≢ Refused no.Keeper [] → K.doubt book.new.keeper ≡ None }
 {
     requests_are_granted_or_refused();
     desks_can_be_opened();
@@ -64,8 +68,8 @@ fn refusal_in(reply: &Reply) -> Option<BookRefusal>
     }
 }
 
-/// One request of a caller to a project, and what is granted.
-pub(crate) fn ask_granted<K: Keeper, G: Ledger>(
+/// One request of a caller to a project, and what is granted. Cost: see [`Book::ask`].
+pub fn ask_granted<K: Keeper, G: Ledger>(
     book: &mut Book<K>,
     caller: &Slug,
     request: Request,
@@ -76,6 +80,10 @@ pub(crate) fn ask_granted<K: Keeper, G: Ledger>(
     ensures shown { IfOk result (λ reply. CanBeShown (answer_of reply)) }
     ensures refused { IfErr result (RefusesTo book.old.log caller.now (asked_of request)) }
     ensures keeper { TellsKeeper K.faults K.faultless book.old.keeper book.new.keeper (IsErrOf result Trouble.DiskFailed) }
+    ensures certain { K.doubt book.old.keeper ≡ None → OnOk result (K.doubt book.new.keeper ≡ None) }
+    ensures no_file { IfErr result (λ trouble. trouble ≢ Trouble.FileFailed) }
+    ensures no_read { IfErr result (λ trouble. trouble ≢ Trouble.ReadFault) }
+    ensures no_write { IfErr result (λ trouble. trouble ≢ Trouble.WriteFault) }
 {
     let reply = ask(book, caller, request, steps);
     match refusal_in(&reply) {
@@ -84,8 +92,8 @@ pub(crate) fn ask_granted<K: Keeper, G: Ledger>(
     }
 }
 
-/// Adds a document to a project for a caller, and tells how many tokens its text has.
-pub(crate) fn add_text<K: Keeper, G: Ledger>(
+/// Adds a document to a project for a caller, and tells how many tokens its text has. Cost: the text.
+pub fn add_text<K: Keeper, G: Ledger>(
     book: &mut Book<K>,
     caller: &Slug,
     doc: Slug,
@@ -95,6 +103,10 @@ pub(crate) fn add_text<K: Keeper, G: Ledger>(
     ensures added { IfOk result (λ tokens. AddsText book.old.log caller.now doc text tokens book.new.log) }
     ensures refused { IfErr result (RefusesTo book.old.log caller.now (AddText doc text)) }
     ensures keeper { TellsKeeper K.faults K.faultless book.old.keeper book.new.keeper (IsErrOf result Trouble.DiskFailed) }
+    ensures certain { K.doubt book.old.keeper ≡ None → OnOk result (K.doubt book.new.keeper ≡ None) }
+    ensures no_file { IfErr result (λ trouble. trouble ≢ Trouble.FileFailed) }
+    ensures no_read { IfErr result (λ trouble. trouble ≢ Trouble.ReadFault) }
+    ensures no_write { IfErr result (λ trouble. trouble ≢ Trouble.WriteFault) }
 {
     match ask_granted(book, caller, Request::AddText { doc, text }, steps)? {
         Reply::Added { tokens } => Ok(tokens),
@@ -113,6 +125,10 @@ fn take_out<K: Keeper, G: Ledger>(
     ensures opened { IfOk result (λ out. IsDesk (desk_on (out_of out))) }
     ensures refused { IfErr result (RefusesTo book.old.log who.now (Checkout doc)) }
     ensures keeper { TellsKeeper K.faults K.faultless book.old.keeper book.new.keeper (IsErrOf result Trouble.DiskFailed) }
+    ensures certain { K.doubt book.old.keeper ≡ None → OnOk result (K.doubt book.new.keeper ≡ None) }
+    ensures no_file { IfErr result (λ trouble. trouble ≢ Trouble.FileFailed) }
+    ensures no_read { IfErr result (λ trouble. trouble ≢ Trouble.ReadFault) }
+    ensures no_write { IfErr result (λ trouble. trouble ≢ Trouble.WriteFault) }
 {
     match ask_granted(book, who, Request::Checkout { doc }, steps)? {
         Reply::Out(out) => Ok(out),
@@ -120,8 +136,8 @@ fn take_out<K: Keeper, G: Ledger>(
     }
 }
 
-/// Checks a layer out for an annotator, and opens its desk.
-pub(crate) fn check_out<K: Keeper, G: Ledger>(
+/// Checks a layer out for an annotator, and opens its desk. Cost: the layer, and its parked commands once.
+pub fn check_out<K: Keeper, G: Ledger>(
     alloc: Global,
     book: &mut Book<K>,
     who: Slug,
@@ -131,6 +147,10 @@ pub(crate) fn check_out<K: Keeper, G: Ledger>(
     ensures out { IfOk result (λ held. ChecksOut book.old.log who doc (holding_of held) book.new.log) }
     ensures refused { IfErr result (RefusesTo book.old.log who (Checkout doc)) }
     ensures keeper { TellsKeeper K.faults K.faultless book.old.keeper book.new.keeper (IsErrOf result Trouble.DiskFailed) }
+    ensures certain { K.doubt book.old.keeper ≡ None → OnOk result (K.doubt book.new.keeper ≡ None) }
+    ensures no_file { IfErr result (λ trouble. trouble ≢ Trouble.FileFailed) }
+    ensures no_read { IfErr result (λ trouble. trouble ≢ Trouble.ReadFault) }
+    ensures no_write { IfErr result (λ trouble. trouble ≢ Trouble.WriteFault) }
 {
     let named = doc.copy()?;
     let out = take_out(book, &who, named, steps)?;

@@ -31,8 +31,8 @@ fn ending_of(ending: Ending) -> Result<(), Trouble>
     }
 }
 
-/// Serves the console as one connection to a project.
-pub(crate) fn serve<V: Visitor, C: Link, G: Ledger>(
+/// Serves the console as one connection to a project. Cost: what is asked on it.
+pub fn serve<V: Visitor, C: Link, G: Ledger>(
     alloc: Global,
     visitor: &mut V,
     start: Start,

@@ -2,7 +2,7 @@
 use Rattle.std.proofs.Common.{◌≡◌, ℕ, List, Option, Some, None, subst}
 use Rattle.std.specs.Prelude.{IfSome}
 use Rattle.program_inputs.specs.declared.trouble.Trouble.{Trouble}
-use Rattle.program_inputs.specs.declared.trouble.Trouble.TheVariants.{Usage, Conf, Ann, Columns, TextNotUtf8, TextTooLong, FileAbsent, FileTooLong, FileFailed, NotAJournal, NewerVersion, Damaged, AlreadyThere, BookTooLong, BadEntry, Refused, DiskFailed, Cut, BadHead, NeedsLength, TooLarge, Encoded, Spent, ReadFault, WriteFault, Memory}
+use Rattle.program_inputs.specs.declared.trouble.Trouble.TheVariants.{Usage, Conf, Ann, Columns, ColumnsOut, Roster, TextNotUtf8, TextTooLong, FileAbsent, FileTooLong, FileFailed, NotAJournal, NewerVersion, Damaged, AlreadyThere, BookTooLong, BadEntry, Refused, DiskFailed, DoorFailed, Cut, BadHead, NeedsLength, TooLarge, Encoded, Spent, ReadFault, WriteFault, Memory}
 use Rattle.project_files.specs.ProjectFiles.{NotOpened}
 
 -- where the file was not told, less is said
@@ -17,6 +17,8 @@ untold Usage held told = told
 untold (Conf line what) held told = told
 untold (Ann line what) held told = told
 untold (Columns line what) held told = told
+untold (ColumnsOut fault) held told = told
+untold (Roster fault) held told = told
 untold TextNotUtf8 held told = told
 untold TextTooLong held told = told
 untold FileAbsent held told = told
@@ -25,6 +27,7 @@ untold FileFailed held told = told
 untold (AlreadyThere bytes) held told = told
 untold (BookTooLong bytes) held told = told
 untold (Refused refusal) held told = told
+untold DoorFailed held told = told
 untold Cut held told = told
 untold BadHead held told = told
 untold NeedsLength held told = told

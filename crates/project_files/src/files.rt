@@ -86,6 +86,7 @@ pub(crate) fn open_in<E: Disk + Drop>(
 /// Gives the disk of a project's journal up.
 pub(crate) fn close<E: Disk + Drop>(book: Book<Journal<E>>) -> E
     ensures file { ⟦<Journal<E> as Keeper>⟧.doubt book.keeper ≡ None → IsFileOf (E.holds result) book.log }
+    ensures certain { ⟦<Journal<E> as Keeper>⟧.faultless book.keeper → IsFileOf (E.holds result) book.log }
     ensures sure { ⟦<Journal<E> as Keeper>⟧.faultless book.keeper → E.faultless result }
 {
     book.keeps();

@@ -92,11 +92,12 @@ pub fn open_project<D: Disks>(
     }
 }
 
-/// Gives the disk of a project back to its name. Where nothing is in doubt behind the last change, the file of the name
-/// is the journal of the project's history.
+/// Gives the disk of a project back to its name. Where nothing is in doubt behind the last change, as where no call of the
+/// disk can fail, the file of the name is the journal of the project's history.
 pub fn give_project_back<D: Disks>(disks: &mut D, name: &str, book: Book<Journal<D::Disk>>)
     requires { IsOut (D.out disks.old) name.now }
     ensures file { ⟦<Journal<D::Disk> as Keeper>⟧.doubt book.keeper ≡ None → IsFileOf (reads_as (D.stored disks.new) name.now) book.log }
+    ensures certain { ⟦<Journal<D::Disk> as Keeper>⟧.faultless book.keeper → IsFileOf (reads_as (D.stored disks.new) name.now) book.log }
     ensures taken_back { IsIn (D.out disks.new) name.now }
     ensures others { KeepsOthers name.now (D.stored disks.old) (D.out disks.old) (D.stored disks.new) (D.out disks.new) }
     ensures stays { D.faultless disks.old → ⟦<Journal<D::Disk> as Keeper>⟧.faultless book.keeper → D.faultless disks.new }

@@ -153,6 +153,8 @@ impl<D: Disk + Drop> Journal<D> {
         ensures faults { ⟦<Journal<D> as Keeper>⟧.faults self.now ≡ D.faults (disk_of self.now) }
         ensures moment { ⟦<Journal<D> as Keeper>⟧.moment self.now ≡ D.moment (disk_of self.now) }
         ensures faultless { ⟦<Journal<D> as Keeper>⟧.faultless self.now → D.faultless (disk_of self.now) }
+        // A journal whose disk cannot fail has nothing to mend.
+        ensures certain { ⟦<Journal<D> as Keeper>⟧.faultless self.now → ⟦<Journal<D> as Keeper>⟧.doubt self.now ≡ None }
 
         // What a stop left of the disk opens to what it left of the journal, also where it does not open.
         ensures stops { (t : ℕ) (image : List ℕ) → D.left_since (disk_of self.now) t image → ⟦<Journal<D> as Keeper>⟧.left_since self.now t (opened image) }

@@ -35,4 +35,4 @@ pub use crate::laws::{
 };
 pub use crate::reader::read_columns;
 pub use crate::worked_rows::{worked_columns, worked_spans};
-pub use crate::writer::write_columns;
+pub use crate::writer::{column_bytes, write_columns};

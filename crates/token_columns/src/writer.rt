@@ -17,8 +17,13 @@ use layer_model::Layer;
 use mark_base::{Bytes, Memory, Sink, write_all};
 use std::alloc::Global;
 
-/// The columns of a layer, or why they do not show it.
-fn column_bytes(alloc: Global, layer: &Layer, doc: &Doc, conf: &Conf) -> Result<Bytes, ColumnOut>
+/// The columns of a layer, or the first of six faults for which they do not show it. Cost: see [`write_columns`].
+pub fn column_bytes(
+    alloc: Global,
+    layer: &Layer,
+    doc: &Doc,
+    conf: &Conf,
+) -> Result<Bytes, ColumnOut>
     requires { IsWellFormed conf.now (length doc.now) layer.now }
     ensures bytes { IfOk result (λ bytes. bytes ≡ columns conf.now doc.now layer.now) }
     ensures fits { OnOk result (Fits doc.now layer.now) }

@@ -1,7 +1,12 @@
+use Rattle.std.proofs.Common.{Err, inr, refl}
+use Rattle.program_inputs.specs.declared.trouble.Trouble.TheVariants.{Memory}
 use Rattle.program_inputs.proofs.Troubles.{not_err}
 use Rattle.annotation_cli.proofs.run.run.Goals as goal
 
+pub returns-in-Err-clause-told : goal.returns-in-Err-clause-told
+returns-in-Err-clause-told g c = record { done = Err Memory; does = inr (refl, refl, refl); ends = c.end_run.ensures.told }
+
 pub returns-clause-done : goal.returns-clause-done
 returns-clause-done g c = λ is.
-    let done = c.end_run.ensures.done is in
+    let done = c.end_run-2.ensures.done is in
     (c.perform_counted-done.ensures.folder.still (not_err done.0), c.perform_counted-done.ensures.read.still (not_err done.0), c.perform_counted-done.ensures.write.still (not_err done.0), done.1)

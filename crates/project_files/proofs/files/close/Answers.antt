@@ -1,4 +1,4 @@
-use Rattle.std.proofs.Common.{◌≡◌, ℕ, List, Some, ap, sym, ◌∙◌, subst}
+use Rattle.std.proofs.Common.{◌≡◌, ℕ, Bool, List, Some, ap, sym, ◌∙◌, subst}
 use Rattle.std.specs.Option.{option_map}
 use Rattle.project_journal.specs.JournalFile.{opened}
 use Rattle.project_journal.specs.Journals.{disk_of}
@@ -18,3 +18,8 @@ returns-clause-file g c = λ none.
     (λ entries file kept held. c.into_disk.ensures.opens entries file kept (ap holds c.into_disk.ensures.disk ∙ held)) in
     subst (λ disk. IsFileOf (holds disk) c.args.book.log) (sym (c.into_disk.ensures.disk ∙ ap disk_of c.into_keeper-journal.ensures))
     (file_of keeper.gate _ c.args.book.log (holds keeper.disk) c.keeps.ensures.kept.entries opens none)
+
+pub returns-clause-certain : goal.returns-clause-certain
+returns-clause-certain g c = λ sure.
+    let keeper = c.args.book.keeper in
+    returns-clause-file g c (ap (λ (mending : Bool). doubt_by (g.E.Disk.holds keeper.disk) keeper.gate mending) sure.1)

@@ -1,0 +1,35 @@
+-- What a run of the program does whose words are `serve BOOK PORT`.
+use Rattle.std.specs.Prelude.{◌≡◌, ℕ, ◌&&◌, ◌||◌, Bool, false, List, [], ◌∷◌, if◌then◌else◌, Option, Some, None, option_and_then, option_map, bytes_eq, codes, nat_le, nat_lt, Result, Ok, Err}
+use Rattle.program_inputs.specs.declared.trouble.Trouble.{Trouble}
+use Rattle.program_inputs.specs.declared.trouble.Trouble.TheVariants as trouble
+use Rattle.program_inputs.specs.Troubles as said
+use Rattle.annotation_cli.specs.Asked.{has_hyphen, number_read}
+use Rattle.serve_command.specs.declared.serve_end.ServeEnd.{ServeEnd}
+use Rattle.serve_command.specs.declared.serve_end.ServeEnd.TheVariants as serve
+use Rattle.serve_command.specs.Serving.{Ends}
+
+-- a number that is a port
+abbrev pub port_of : ℕ → Option ℕ
+port_of number = if nat_lt 0 number && nat_lt number 65536 then Some number else None
+
+-- the file and the port of three words
+abbrev pub serving_by : (name book port : List ℕ) → Option (List ℕ × ℕ)
+serving_by name book port =
+    if bytes_eq name (codes "serve") then (if has_hyphen book || has_hyphen port then None else option_map (λ it. (book, it)) (option_and_then port_of (number_read port))) else None
+
+-- the file and the port that the words ask to serve, if they ask that
+abbrev pub serving_of : List (List ℕ) → Option (List ℕ × ℕ)
+serving_of (name ∷ a ∷ b ∷ []) = serving_by name a b
+serving_of words = None
+
+-- what the end of serving comes to
+abbrev pub trouble_of : Result (Unit {0}) ServeEnd → Result (Unit {0}) Trouble
+trouble_of (Ok done) = Ok tt
+trouble_of (Err (serve.Trouble why)) = Err why
+trouble_of (Err serve.DoorFailed) = Err trouble.DoorFailed
+
+-- a run that serves the project of a file by the door of a port: how it ended, and what it says of that on the complaint sink
+pub record Serves (faultless sure : Type 0) (file file_now : Option (List ℕ)) (doors_before doors_now : ℕ) (said_before said_now : Option (List ℕ)) (said_faults_before said_faults_now : ℕ) (status : ℕ) : Type 0 where
+  pub done : Result (Unit {0}) ServeEnd
+  pub ends : Ends faultless sure file file_now doors_before doors_now done
+  pub says : said.Ends false (trouble_of done) said_before said_now said_faults_before said_faults_now status

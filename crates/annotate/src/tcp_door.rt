@@ -1,0 +1,50 @@
+//! A port that is listened at, as a door.
+ghost use Rattle.std.specs.Prelude.{◌≡◌, ⊤};
+
+use crate::tcp_link::TcpLink;
+use link_doors::Door;
+use mark_base::Failed;
+use std::io::{Read, Write};
+use std::net::OpenListener;
+
+/// A port that is listened at. It has no end; a connection that the system does not give is a fault.
+#[derive(Drop)]
+pub struct TcpDoor<L> {
+    listener: L,
+    faults: u64,
+}
+
+impl<L> TcpDoor<L> {
+    /// A door over this listener, with no fault counted yet.
+    pub fn new(listener: L) -> Self
+        ensures { result.faults ≡ 0 }
+    {
+        TcpDoor {
+            listener,
+            faults: 0,
+        }
+    }
+}
+
+impl<L: OpenListener> Door for TcpDoor<L>
+where
+    L::Stream: Read + Write + Send + Drop,
+{
+    type Link = TcpLink<L::Stream>;
+
+    ghost door_faults = { λ door. door.faults };
+
+    ghost sure = { ⊥ };
+
+    ghost endless = { ⊤ };
+
+    fn next(&mut self) -> Result<Option<TcpLink<L::Stream>>, Failed> {
+        match self.listener.accept() {
+            Ok((stream, _)) => Ok(Some(TcpLink::new(stream))),
+            Err(_) => {
+                self.faults = self.faults.saturating_add(1);
+                Err(Failed)
+            }
+        }
+    }
+}

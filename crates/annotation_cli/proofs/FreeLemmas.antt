@@ -1,0 +1,20 @@
+-- Where the disk of one name came back and each other name stayed as it was, no name is out.
+use Rattle.std.proofs.Common.{◌≡◌, ℕ, Bool, true, false, List, Option, refl, sym, subst}
+use Rattle.std.specs.Prelude.{IfSome, bytes_eq}
+use Rattle.std.specs.Bool.{Decides}
+use Rattle.std.proofs.lemmas.Slice.Eq.{bytes_eq-Decides}
+use Rattle.named_disks.specs.NamedDisks.{IsIn, KeepsOthers, Stored}
+
+false_true : ◌≡◌ {A = Bool} false true → ⊥
+false_true same = cc
+
+pick : {P Q : Type 0} (b : Bool) → Decides b P → (P → Q) → ((P → ⊥) → Q) → Q
+pick {P} {Q} true d holds fails = holds (d.0 refl)
+pick {P} {Q} false d holds fails = fails (λ p. false_true (d.1 p))
+
+-- no name is out behind a call that gives one disk back
+pub free_after : (book name : List ℕ) (stored stored_now : Option Stored) (out out_now : Option (List (List ℕ))) → KeepsOthers book stored out stored_now out_now
+    → IsIn out name → IsIn out_now book → IsIn out_now name
+free_after book name stored stored_now out out_now kept before back =
+    pick (bytes_eq name book) (bytes_eq-Decides name book) (λ same. subst (λ n. IsIn out_now n) (sym same) back)
+    (λ other. subst (λ told. IfSome told (λ it. it ≡ false)) (sym (kept.same_out name other)) before)

@@ -1,0 +1,2 @@
+pub mod MemoryDoors
+pub mod Workers

@@ -1,0 +1,43 @@
+#!/usr/bin/env bash
+# A first project, from files to a curated layer, in a folder of its own: docs/getting-started.md, run whole.
+#
+#     examples/walk.sh [PROGRAM]      the program is annotate beside this folder, where none is named
+set -eu
+here="$(cd "$(dirname "${BASH_SOURCE[0]}")" && pwd)"
+annotate="$(readlink -f "${1:-$here/../annotate}")"
+folder="$(mktemp -d)"
+trap 'rm -rf "$folder"' EXIT
+cd "$folder"
+
+# Runs words and compares what is printed with what has to be.
+expect() {
+    local wanted="$1" found
+    shift
+    found="$("$annotate" "$@")"
+    if [ "$found" != "$wanted" ]; then
+        printf 'walk: %s printed\n%s\nand not\n%s\n' "$*" "$found" "$wanted" >&2
+        exit 1
+    fi
+    printf '$ annotate %s\n%s\n' "$*" "$found"
+}
+
+expect 'annotators 3 curators 1' found news.book "$here/news.conf" "$here/roster.csv"
+expect 'tokens 5' add news.book cur rome "$here/news.txt"
+"$annotate" session news.book <"$here/session.http" >/dev/null
+expect $'T1\tPerson 0 3\tAnn\nT2\tPerson 8 11\tBob' export news.book ann rome
+expect 'revision 1' import news.book bob rome "$here/news.ann"
+expect 'first,second,units,agreed,top,bottom,kappa
+ann,bob,5,3,8,18,0.4444
+ann,cid,0,0,0,0,undefined
+bob,cid,0,0,0,0,undefined
+
+units,values,top,bottom,alpha
+5,10,10810800,23783760,0.4545' agree news.book
+"$annotate" session news.book <"$here/curate.http" >/dev/null
+expect $'T1\tPerson 0 3\tAnn\nT2\tPerson 8 11\tBob\nT3\tLocation 15 19\tRome' curated news.book 1
+if "$annotate" add news.book cur rome "$here/news.txt" 2>refused; then
+    echo "walk: a document was added twice" >&2
+    exit 1
+fi
+[ "$(cat refused)" = 'refused: DocumentThere' ]
+echo "the walk is done"
