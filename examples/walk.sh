@@ -35,6 +35,8 @@ units,values,top,bottom,alpha
 5,10,10810800,23783760,0.4545' agree news.book
 "$annotate" session news.book <"$here/curate.http" >/dev/null
 expect $'T1\tPerson 0 3\tAnn\nT2\tPerson 8 11\tBob\nT3\tLocation 15 19\tRome' curated news.book 1
+[[ "$("$annotate" compact news.book news.new)" =~ ^place\ [0-9]+$ ]]
+expect $'T1\tPerson 0 3\tAnn\nT2\tPerson 8 11\tBob\nT3\tLocation 15 19\tRome' curated news.new 1
 if "$annotate" add news.book cur rome "$here/news.txt" 2>refused; then
     echo "walk: a document was added twice" >&2
     exit 1

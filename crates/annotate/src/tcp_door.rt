@@ -2,8 +2,8 @@
 ghost use Rattle.std.specs.Prelude.{◌≡◌, ⊤};
 
 use crate::tcp_link::TcpLink;
-use link_doors::Door;
 use mark_base::Failed;
+use serve_command::Door;
 use std::io::{Read, Write};
 use std::net::OpenListener;
 

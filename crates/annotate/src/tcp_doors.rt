@@ -2,8 +2,8 @@
 ghost use Rattle.std.specs.Prelude.{◌≡◌};
 
 use crate::tcp_door::TcpDoor;
-use link_doors::Doors;
 use mark_base::Failed;
+use serve_command::Doors;
 use std::net::{Net, TcpListener};
 
 /// The ports of this machine. Each is listened at on 127.0.0.1, so programs of this machine alone come in. A port that

@@ -3,9 +3,9 @@ use Rattle.std.proofs.Common.{◌≡◌, ℕ, List, inr, subst, ◌∙◌}
 use Rattle.layer_model.specs.Annotations.{Annotations}
 use Rattle.layer_undo.specs.Desks.{layer_of, settled}
 use Rattle.project_machine.specs.Requests.{Commit, Committed, Happened}
-use Rattle.book_exchange.specs.Connections.{Holding, with_desk}
+use Rattle.annotation_http.specs.Exchanges.Connections.{Holding, with_desk}
 use Rattle.program_inputs.specs.declared.trouble.Trouble.{Trouble}
-use Rattle.project_commands.specs.Requests.{Grants, RefusesTo}
+use Rattle.annotation_cli.specs.Commands.Requests.{Grants, RefusesTo}
 use Rattle.annotation_cli.specs.Importing.{CommitRefused, Commits, Loads, NotCommitted}
 
 same_held : (one other : Holding) → one.who ≡ other.who → one.doc ≡ other.doc → one.hold ≡ other.hold → with_desk one (settled one.desk) ≡ with_desk other (settled one.desk)

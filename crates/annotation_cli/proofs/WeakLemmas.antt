@@ -4,13 +4,13 @@ use Rattle.http_wire.specs.declared.stop.Stop.{Stop}
 use Rattle.http_wire.specs.declared.stop.Stop.TheVariants as stop
 use Rattle.std.specs.Io.KnownBytes.{prepend_known}
 use Rattle.project_machine.specs.Asking.{Visiting}
-use Rattle.book_exchange.specs.Connections.{Connection, Bare, Holds}
-use Rattle.book_connection.specs.declared.ending.Ending.{Ending}
-use Rattle.book_connection.specs.declared.ending.Ending.TheVariants as ending
-use Rattle.book_connection.specs.Steps.{Serving, IsLastPark}
-use Rattle.book_connection.specs.Session.{AllAnswered, AnsweredLast, BrokenOff, ConnectionTold, Lacks, Owes, Refused, Refuses, Served, SessionEnds, SessionTold, Stepped, StopAnswered, Stopped, Taken}
+use Rattle.annotation_http.specs.Exchanges.Connections.{Connection, Bare, Holds}
+use Rattle.annotation_http.specs.declared.connection.ending.Ending.{Ending}
+use Rattle.annotation_http.specs.declared.connection.ending.Ending.TheVariants as ending
+use Rattle.annotation_http.specs.Connection.Steps.{Serving, IsLastPark}
+use Rattle.annotation_http.specs.Connection.Session.{AllAnswered, AnsweredLast, BrokenOff, ConnectionTold, Lacks, Owes, Refused, Refuses, Served, SessionEnds, SessionTold, Stepped, StopAnswered, Stopped, Taken}
 use Rattle.program_inputs.specs.declared.trouble.Trouble.{Trouble}
-use Rattle.project_commands.specs.Serving.{Serves}
+use Rattle.annotation_cli.specs.Commands.Serving.{Serves}
 
 abbrev served : (A B : Type 0) → (B → A) → (old new : Serving) (left now before written : Option (List ℕ)) (count : ℕ) → Served A old new left now before written count → Served B old new left now before written count
 served A B f old new left now before written count s = record {

@@ -3,11 +3,10 @@ use Rattle.std.proofs.Common.{◌≡◌, ℕ, ◌<◌, ◌≤◌, List, [], ◌�
 use Rattle.std.specs.Prelude.{map}
 use Rattle.annotation_cli.specs.Asked.{command_of}
 
--- fewer than two words
-pub too_few : {A : Type 0} (f : A → List ℕ) (words : List A) → length words < 2 → None ≡ command_of (map f words)
+-- no word
+pub too_few : {A : Type 0} (f : A → List ℕ) (words : List A) → length words < 1 → None ≡ command_of (map f words)
 too_few {A} f [] few = refl
-too_few {A} f (a ∷ []) few = refl
-too_few {A} f (a ∷ b ∷ rest) few = absurd (omega arith)
+too_few {A} f (a ∷ rest) few = absurd (omega arith)
 
 -- more than five words
 pub too_many : {A : Type 0} (f : A → List ℕ) (words : List A) → 6 ≤ length words → None ≡ command_of (map f words)

@@ -4,8 +4,8 @@ use Rattle.project_machine.specs.Requests.{AddText, Happened}
 use Rattle.program_inputs.specs.declared.trouble.Trouble.{Trouble}
 use Rattle.program_inputs.specs.Files.{HoldsText, TextRefused}
 use Rattle.program_inputs.specs.Troubles.{with_number}
-use Rattle.project_files.specs.ProjectFiles.{NotOpened}
-use Rattle.project_commands.specs.Requests.{AddsText, RefusesTo}
+use Rattle.program_inputs.specs.ProjectFiles.ProjectFiles.{NotOpened}
+use Rattle.annotation_cli.specs.Commands.Requests.{AddsText, RefusesTo}
 use Rattle.annotation_cli.specs.Works.{EndsOn, WorksOn}
 
 -- the text of a file was added for a caller to a project, and its tokens are counted

@@ -1,5 +1,5 @@
 -- Which command the words are.
-use Rattle.std.specs.Prelude.{ℕ, ◌==◌, ◌||◌, ◌&&◌, Bool, List, [], ◌∷◌, if◌then◌else◌, Option, Some, None, is_none, option_and_then, option_map, bytes_eq, codes, length, nat_le, nat_lt, slice_index}
+use Rattle.std.specs.Prelude.{◌≡◌, ◌≢◌, ◌⊎◌, ⊤, ℕ, ◌==◌, ◌||◌, ◌&&◌, Bool, List, [], ◌∷◌, if◌then◌else◌, Option, Some, None, is_none, option_and_then, option_map, bytes_eq, codes, length, nat_le, nat_lt, slice_index}
 use Rattle.std.specs.Str.{all_ascii_digits}
 use Rattle.std.specs.Str.Parse.{digits_value}
 use Rattle.mark_base.specs.Names.{slug_fault}
@@ -19,10 +19,12 @@ pub data BookCommand : Type 0 where
 
 -- a command, with the words behind its name
 pub data Command : Type 0 where
+  Help : Command
   Try : (conf text : List ℕ) → Command
   Verify : (conf text ann : List ℕ) → Command
   ColumnsIn : (conf text columns : List ℕ) → Command
   Session : (book : List ℕ) → Command
+  Compact : (book made : List ℕ) → Command
   OnBook : BookCommand → Command
 
 -- ---- words
@@ -49,6 +51,10 @@ level_of number = if nat_lt number 255 then Some number else None
 
 -- ---- commands by the number of their words
 
+-- a command of no word more
+abbrev pub alone : (name : List ℕ) → Option Command
+alone name = if bytes_eq name (codes "--help") then Some Help else None
+
 -- commands of one word more
 abbrev pub with_one : (name a : List ℕ) → Option Command
 with_one name a =
@@ -59,10 +65,15 @@ with_one name a =
 abbrev pub curated_of : (book : List ℕ) → Option ℕ → Option Command
 curated_of book number = option_map (λ it. OnBook (Curated book it)) number
 
+-- another file that begins with the state of a project, by words that are two
+abbrev pub compact_of : (book made : List ℕ) → Option Command
+compact_of book made = if bytes_eq book made then None else Some (Compact book made)
+
 -- commands of two words more
 abbrev pub with_two : (name a b : List ℕ) → Option Command
 with_two name a b =
     if bytes_eq name (codes "try") then Some (Try a b)
+    else if bytes_eq name (codes "compact") then compact_of a b
     else if bytes_eq name (codes "curated") then curated_of a (number_read b) else None
 
 -- the committed layer of an annotator on a document, by words that may name them
@@ -100,8 +111,9 @@ with_four name a b c d =
 abbrev pub unless_hyphens : Bool → Option Command → Option Command
 unless_hyphens hyphens command = if hyphens then None else command
 
--- the command that the words are; a word that begins with a hyphen is none of a command
+-- the command that the words are; but for a single `--help` a word that begins with a hyphen is none of a command
 abbrev pub command_of : List (List ℕ) → Option Command
+command_of (name ∷ []) = alone name
 command_of (name ∷ a ∷ []) = unless_hyphens (has_hyphen a) (with_one name a)
 command_of (name ∷ a ∷ b ∷ []) = unless_hyphens (has_hyphen a || has_hyphen b) (with_two name a b)
 command_of (name ∷ a ∷ b ∷ c ∷ []) = unless_hyphens (has_hyphen a || has_hyphen b || has_hyphen c) (with_three name a b c)
@@ -121,10 +133,12 @@ book_command_in (on.Curated book number) = Curated book.now number
 
 -- the command of a job
 abbrev pub command_in : Job → Command
+command_in job.Help = Help
 command_in (job.Try conf text) = Try conf.now text.now
 command_in (job.Verify conf text ann) = Verify conf.now text.now ann.now
 command_in (job.ColumnsIn conf text columns) = ColumnsIn conf.now text.now columns.now
 command_in (job.Session book) = Session book.now
+command_in (job.Compact book made) = Compact book.now made.now
 command_in (job.Book it) = OnBook (book_command_in it)
 
 -- the file of the project on which a command works
@@ -136,8 +150,14 @@ file_in (Export book who name) = book
 file_in (Agree book) = book
 file_in (Curated book number) = book
 
--- the file of the project on which the words' command works, if it works on one
-abbrev pub book_of : Option Command → Option (List ℕ)
-book_of (Some (Session book)) = Some book
-book_of (Some (OnBook it)) = Some (file_in it)
-book_of other = None
+-- a command that works on two files names two
+abbrev pub NamesTwo : Option Command → Type 0
+NamesTwo (Some (Compact book made)) = book ≢ made
+NamesTwo other = ⊤
+
+-- a file on whose disk the words' command works
+abbrev pub IsFileIn : Option Command → List ℕ → Type 0
+IsFileIn (Some (Session book)) name = name ≡ book
+IsFileIn (Some (Compact book made)) name = (name ≡ book) ⊎ (name ≡ made)
+IsFileIn (Some (OnBook it)) name = name ≡ file_in it
+IsFileIn other name = ⊥

@@ -6,7 +6,7 @@ use Rattle.project_machine.specs.People.{annotator_count, curator_count}
 use Rattle.project_book.specs.Founding.{founded}
 use Rattle.program_inputs.specs.declared.trouble.Trouble.{Trouble}
 use Rattle.program_inputs.specs.Files.{HasConf, ConfRefused, HasRoster, RosterRefused}
-use Rattle.project_files.specs.ProjectFiles.{IsFileOf, NotMade}
+use Rattle.program_inputs.specs.ProjectFiles.ProjectFiles.{IsFileOf, NotMade}
 
 -- how many people of either sort a project has, as `annotators 3 curators 1`
 abbrev pub people_line : List Person → List ℕ

@@ -9,13 +9,13 @@ use Rattle.layer_undo.specs.Desks.{DeskState, layer_of, performed, settled}
 use Rattle.project_machine.specs.declared.book_refusal.BookRefusal.TheVariants as no
 use Rattle.project_machine.specs.Requests.{Asked, Checkout, Commit, Committed, Park, Parked, ReadConf, ReadText, Happened}
 use Rattle.project_machine.specs.Requests as answers
-use Rattle.book_exchange.specs.Connections.{Holding, with_desk}
+use Rattle.annotation_http.specs.Exchanges.Connections.{Holding, with_desk}
 use Rattle.program_inputs.specs.declared.trouble.Trouble.{Trouble}
 use Rattle.program_inputs.specs.declared.trouble.Trouble.TheVariants as trouble
 use Rattle.program_inputs.specs.Files.{AnnRefused, HasAnn}
 use Rattle.program_inputs.specs.Troubles.{with_number}
-use Rattle.project_files.specs.ProjectFiles.{NotOpened}
-use Rattle.project_commands.specs.Requests.{ChecksOut, Grants, RefusesTo}
+use Rattle.program_inputs.specs.ProjectFiles.ProjectFiles.{NotOpened}
+use Rattle.annotation_cli.specs.Commands.Requests.{ChecksOut, Grants, RefusesTo}
 use Rattle.annotation_cli.specs.Works.{EndsOn, WorksOn}
 
 -- ---- what an .ann file is read for

@@ -1,7 +1,10 @@
+pub mod Commands
 pub mod Adding
 pub mod Asked
 pub mod ColumnsIn
+pub mod Compacting
 pub mod Founding
+pub mod Help
 pub mod Importing
 pub mod Printing
 pub mod Run

@@ -4,15 +4,17 @@ use Rattle.named_disks.specs.NamedDisks.{KeepsNames, Stored, reads_as}
 use Rattle.program_inputs.specs.declared.trouble.Trouble.{Trouble}
 use Rattle.program_inputs.specs.declared.trouble.Trouble.TheVariants.{Memory, Usage}
 use Rattle.program_inputs.specs.Troubles.{Ends}
-use Rattle.project_commands.specs.Trying.{TryTold}
+use Rattle.annotation_cli.specs.Commands.Trying.{TryTold}
+use Rattle.annotation_cli.specs.Help.{HelpTold}
 use Rattle.annotation_cli.specs.Printing.{Prints}
 use Rattle.annotation_cli.specs.Founding.{Founds, NotFounded}
 use Rattle.annotation_cli.specs.Adding.{Adds, NotAdded}
 use Rattle.annotation_cli.specs.Importing.{Imports, NotImported}
 use Rattle.annotation_cli.specs.Showing.{Agrees, Exports, NoSnapshot, NotAgreed, NotExported, ShowsSnapshot}
 use Rattle.annotation_cli.specs.Sessions.{SessionTold}
-use Rattle.annotation_cli.specs.Asked.{BookCommand, Found, Add, Import, Export, Agree, Curated, Command, Try, Verify, ColumnsIn, Session, OnBook, book_of, command_of}
+use Rattle.annotation_cli.specs.Asked.{BookCommand, Found, Add, Import, Export, Agree, Curated, Command, Help, Try, Verify, ColumnsIn, Compact, Session, OnBook, IsFileIn, command_of}
 use Rattle.annotation_cli.specs.ColumnsIn.{ColumnsTold}
+use Rattle.annotation_cli.specs.Compacting.{Compacts, NotCompacted}
 use Rattle.annotation_cli.specs.Verify.{VerifyTold}
 
 -- what the devices of a run tell at a moment: how many reads of the folder failed, what is left in the console and what it holds, and what the disks store
@@ -51,15 +53,24 @@ pub record Shows (file : List ℕ → Option (Option (List ℕ))) (command : Boo
   pub prints : Prints found old.held new.held done
   pub unread : new.left ≡ old.left
 
+-- a project was compacted into another file, and its place was printed; the console is not read
+pub record ShowsCompact (book made : List ℕ) (old new : Told) (done : Result (Unit {0}) Trouble) : Type 0 where
+  pub found : Result (List ℕ) Trouble
+  pub finds : MatchResult found (Compacts (reads_as old.stored book) (reads_as new.stored book) (reads_as new.stored made)) (NotCompacted (reads_as old.stored book) (reads_as old.stored made))
+  pub prints : Prints found old.held new.held done
+  pub unread : new.left ≡ old.left
+
 -- what the command of the words came to; but for `try` and `session` the console is not read
 abbrev pub Does : (file : List ℕ → Option (Option (List ℕ))) → Option Command → (faultless : Type 0) → (old new : Told) → Result (Unit {0}) Trouble → Type 0
 Does file None faultless old new done = IsNoCommand old new done
+Does file (Some Help) faultless old new done = HelpTold old.left new.left old.held new.held done
 Does file (Some (Try conf text)) faultless old new done = TryTold (file conf) (file text) old.folder_faults new.folder_faults old.left new.left old.held new.held done
 Does file (Some (Verify conf text ann)) faultless old new done =
     VerifyTold (file conf) (file text) (file ann) old.folder_faults new.folder_faults old.held new.held done × (new.left ≡ old.left)
 Does file (Some (ColumnsIn conf text columns)) faultless old new done =
     ColumnsTold (file conf) (file text) (file columns) old.folder_faults new.folder_faults old.held new.held done × (new.left ≡ old.left)
 Does file (Some (Session book)) faultless old new done = SessionTold faultless (reads_as old.stored book) (reads_as new.stored book) old.left new.left old.held new.held done
+Does file (Some (Compact book made)) faultless old new done = ShowsCompact book made old new done
 Does file (Some (OnBook command)) faultless old new done = Shows file command old new done
 
 -- the command looks for faults of files, and has a status of its own for those
@@ -68,9 +79,9 @@ looks_for_faults (Some (Verify conf text ann)) = true
 looks_for_faults (Some (OnBook (Import book who name ann))) = true
 looks_for_faults other = false
 
--- each name but the file of the words' project is as before: what its disk reads as, and whether it is out
-abbrev pub KeepsBut : Option (List ℕ) → Option Stored → Option (List (List ℕ)) → Option Stored → Option (List (List ℕ)) → Type 0
-KeepsBut book = KeepsNames (λ name. Some name ≢ book)
+-- each name but the files on which the words' command works is as before: what its disk reads as, and whether it is out
+abbrev pub KeepsBut : Option Command → Option Stored → Option (List (List ℕ)) → Option Stored → Option (List (List ℕ)) → Type 0
+KeepsBut command = KeepsNames (λ name. IsFileIn command name → ⊥)
 
 -- a run: what its command came to, and what it says of that on the complaint sink; there may be no memory to read its words
 pub record Runs (file : List ℕ → Option (Option (List ℕ))) (words : List (List ℕ)) (faultless : Type 0) (old new : Told)

@@ -4,10 +4,10 @@ use Rattle.project_machine.specs.Requests.{Happened}
 use Rattle.project_machine.specs.History.{last}
 use Rattle.project_machine.specs.Asking.{Visiting}
 use Rattle.project_book.specs.Visits.{visiting_alone}
-use Rattle.book_exchange.specs.Connections.{Bare}
+use Rattle.annotation_http.specs.Exchanges.Connections.{Bare}
 use Rattle.program_inputs.specs.declared.trouble.Trouble.{Trouble}
-use Rattle.project_files.specs.ProjectFiles.{IsFileOf, NotOpened, OpensAs}
-use Rattle.project_commands.specs.Serving.{Serves}
+use Rattle.program_inputs.specs.ProjectFiles.ProjectFiles.{IsFileOf, NotOpened, OpensAs}
+use Rattle.annotation_cli.specs.Commands.Serving.{Serves}
 
 -- the console was served with a project, whose history then is this
 pub record ServesBook (faultless : Type 0) (log : List Happened) (left now before written : Option (List ℕ)) (done : Result (Unit {0}) Trouble) (log_now : List Happened) : Type 0 where

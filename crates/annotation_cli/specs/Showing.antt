@@ -10,10 +10,10 @@ use Rattle.kappa_alpha.specs.declared.figures.AlphaLine.{AlphaLine}
 use Rattle.agreement_report.specs.Report.{alpha_table, pairs_table}
 use Rattle.project_machine.specs.Requests.{ReadLayer, ReadPairs, ReadAlpha, TakeSnapshot, Alpha, Layer, Pairs, Taken, View, Happened}
 use Rattle.project_machine.specs.History.{after}
-use Rattle.book_answers.specs.Answers.{curated_layer}
+use Rattle.http_answers.specs.Answers.Answers.{curated_layer}
 use Rattle.program_inputs.specs.declared.trouble.Trouble.{Trouble}
-use Rattle.project_files.specs.ProjectFiles.{NotOpened}
-use Rattle.project_commands.specs.Requests.{Grants, RefusesTo}
+use Rattle.program_inputs.specs.ProjectFiles.ProjectFiles.{NotOpened}
+use Rattle.annotation_cli.specs.Commands.Requests.{Grants, RefusesTo}
 use Rattle.annotation_cli.specs.Works.{EndsOn, WorksOn}
 
 -- ---- what a project shows

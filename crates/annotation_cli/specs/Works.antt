@@ -1,7 +1,7 @@
 -- What a command does with the file of a project: it is opened, something is done, and the file has the history behind that.
 use Rattle.std.specs.Prelude.{ℕ, List, Option}
 use Rattle.project_machine.specs.Requests.{Happened}
-use Rattle.project_files.specs.ProjectFiles.{IsFileOf, OpensAs}
+use Rattle.program_inputs.specs.ProjectFiles.ProjectFiles.{IsFileOf, OpensAs}
 
 -- the file was opened as a project of a history, this was done there, and the file then is the journal of the history behind it
 pub record WorksOn (file file_now : Option (List ℕ)) (Done : List Happened → List Happened → Type 0) : Type 0 where

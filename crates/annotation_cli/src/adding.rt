@@ -6,12 +6,13 @@ ghost use Rattle.project_book.specs.Keeping.{TellsKeeper};
 ghost use Rattle.program_inputs.specs.Troubles.{with_number};
 ghost use Rattle.annotation_cli.specs.Adding.{Adds, AddsHere, NotAdded, NotAddedHere};
 
+use crate::commands::add_text;
 use mark_base::{Bytes, Memory, Slug, Steps};
 use named_disks::Disks;
-use program_inputs::{Folder, Trouble, read_text_file, with_number};
+use program_inputs::{
+    Folder, Trouble, give_project_back, open_project, read_text_file, with_number,
+};
 use project_book::Book;
-use project_commands::add_text;
-use project_files::{give_project_back, open_project};
 use project_journal::Keeper;
 use std::alloc::Global;
 use std::sync::ledger::Ledger;

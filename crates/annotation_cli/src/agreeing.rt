@@ -3,19 +3,17 @@ ghost use Rattle.std.specs.Prelude.{◌≡◌, ◌≢◌, ◌++◌, None, IfErr,
 ghost use Rattle.named_disks.specs.NamedDisks.{IsIn, KeepsOthers, reads_as};
 ghost use Rattle.project_book.specs.Keeping.{TellsKeeper};
 ghost use Rattle.project_machine.specs.Requests.{ReadAlpha, ReadPairs};
-ghost use Rattle.project_commands.specs.Requests.{RefusesTo};
+ghost use Rattle.annotation_cli.specs.Commands.Requests.{RefusesTo};
 ghost use Rattle.annotation_cli.specs.Showing.{Agrees, NoAgreement, NotAgreed, ShowsAgreement, ShowsAlpha, ShowsPairs, curator_in};
 
+use crate::commands::ask_granted;
 use crate::showing::curator_in;
 use agreement_report::{alpha_csv, pairs_csv};
 use mark_base::{Bytes, Memory, Slug, Steps};
 use named_disks::Disks;
-use program_inputs::Trouble;
-use project_book::Book;
-use project_commands::ask_granted;
-use project_files::{give_project_back, open_project};
+use program_inputs::{Trouble, give_project_back, open_project};
+use project_book::{Book, Reply, Request};
 use project_journal::Keeper;
-use project_state::{Reply, Request};
 use std::alloc::Global;
 use std::sync::ledger::Ledger;
 

@@ -2,7 +2,7 @@
 ghost use Rattle.std.specs.Prelude.{◌≡◌, ◌||◌, false, true, is_none, map, option_and_then, option_map, string_bytes, IfNone, IfOk, IfSome};
 ghost use Rattle.std.specs.Str.{all_ascii_digits};
 ghost use Rattle.mark_base.specs.Names.{slug_fault};
-ghost use Rattle.annotation_cli.specs.Asked.{add_of, command_in, command_of, export_of, found_at, has_hyphen, import_of, is_slug, level_of, number_read, unless_hyphens, with_four, with_one, with_three, with_two};
+ghost use Rattle.annotation_cli.specs.Asked.{add_of, alone, command_in, command_of, compact_of, export_of, found_at, has_hyphen, import_of, is_slug, level_of, number_read, unless_hyphens, with_four, with_one, with_three, with_two};
 
 use mark_base::{Memory, NameFault, Slug};
 use std::alloc::Global;
@@ -51,6 +51,8 @@ pub(crate) enum BookJob<'w> {
 /// What the words ask, with the words behind the command's name.
 #[derive(Debug, Drop)]
 pub(crate) enum Job<'w> {
+    /// What the commands are.
+    Help,
     /// A project in memory on a configuration and a text, served on the console.
     Try {
         conf: &'w str,
@@ -71,6 +73,11 @@ pub(crate) enum Job<'w> {
     /// The project of a file, served on the console.
     Session {
         book: &'w str,
+    },
+    /// Another file that begins with the state of the project of a file.
+    Compact {
+        book: &'w str,
+        made: &'w str,
     },
     /// What is asked of the project of a file and printed.
     Book(BookJob<'w>),
@@ -149,6 +156,17 @@ fn level_read(word: &str) -> Option<u8>
 
 // ---- commands by the number of their words
 
+/// The job of a single word.
+fn alone<'w>(name: &str) -> Option<Job<'w>>
+    ensures { option_map command_in result ≡ alone name.now }
+{
+    if name == "--help" {
+        Some(Job::Help)
+    } else {
+        None
+    }
+}
+
 /// The job of a command's name and one word more.
 fn with_one<'w>(name: &str, a: &'w str) -> Option<Job<'w>>
     ensures { option_map command_in result ≡ with_one name.now a.now }
@@ -162,12 +180,26 @@ fn with_one<'w>(name: &str, a: &'w str) -> Option<Job<'w>>
     None
 }
 
+/// Another file of a project, where two words are two.
+fn compact_of<'w>(book: &'w str, made: &'w str) -> Option<Job<'w>>
+    ensures { option_map command_in result ≡ compact_of book.now made.now }
+{
+    if book == made {
+        None
+    } else {
+        Some(Job::Compact { book, made })
+    }
+}
+
 /// The job of a command's name and two words more.
 fn with_two<'w>(name: &str, a: &'w str, b: &'w str) -> Option<Job<'w>>
     ensures { option_map command_in result ≡ with_two name.now a.now b.now }
 {
     if name == "try" {
         return Some(Job::Try { conf: a, text: b });
+    }
+    if name == "compact" {
+        return compact_of(a, b);
     }
     if name == "curated" {
         return match number_read(b) {
@@ -382,13 +414,14 @@ pub(crate) fn job_of(alloc: Global, words: &[String]) -> Result<Option<Job<'_>>,
     ensures { IfOk result (λ job. option_map command_in job ≡ command_of (map string_bytes words.now)) }
 {
     let count = words.len();
-    if count < 2 {
+    if count < 1 {
         return Ok(None);
     }
     if count > 5 {
         return Ok(None);
     }
     match words {
+        [name] => Ok(alone(name.as_str())),
         [name, a] => Ok(of_one(name.as_str(), a.as_str())),
         [name, a, b] => Ok(of_two(name.as_str(), a.as_str(), b.as_str())),
         [name, a, b, c] => of_three(alloc, name.as_str(), a.as_str(), b.as_str(), c.as_str()),

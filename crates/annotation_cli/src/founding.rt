@@ -3,7 +3,7 @@ ghost use Rattle.std.specs.Prelude.{◌≡◌, ◌≢◌, ◌≤◌, IfErr, IfOk
 ghost use Rattle.mark_base.specs.Streams.{TellsFault};
 ghost use Rattle.named_disks.specs.NamedDisks.{IsIn, KeepsOthers, reads_as};
 ghost use Rattle.project_machine.specs.People.{annotator_count, curator_count};
-ghost use Rattle.project_files.specs.ProjectFiles.{IsFileOf, NotMade};
+ghost use Rattle.program_inputs.specs.ProjectFiles.ProjectFiles.{IsFileOf, NotMade};
 ghost use Rattle.project_book.specs.Founding.{founded};
 ghost use Rattle.annotation_cli.specs.Founding.{Founds, NotFounded, people_line};
 
@@ -11,9 +11,10 @@ use annotation_conf::Conf;
 use entry_bytes::Person;
 use mark_base::{Bytes, Memory};
 use named_disks::Disks;
-use program_inputs::{Folder, Trouble, read_conf_file, read_roster_file};
-use project_files::{found_project, give_project_back};
-use project_state::Roster;
+use program_inputs::{
+    Folder, Trouble, found_project, give_project_back, read_conf_file, read_roster_file,
+};
+use project_book::Roster;
 use std::alloc::Global;
 
 /// How many of some people are annotators.

@@ -8,24 +8,24 @@ ghost use Rattle.project_machine.specs.Requests as answers;
 ghost use Rattle.project_machine.specs.Requests.{Commit, Committed, Parked, ReadConf, ReadText};
 ghost use Rattle.project_state.specs.Values.{asked_of};
 ghost use Rattle.project_book.specs.Keeping.{TellsKeeper};
-ghost use Rattle.book_exchange.specs.Connections.{holding_of, with_desk};
+ghost use Rattle.annotation_http.specs.Exchanges.Connections.{holding_of, with_desk};
 ghost use Rattle.program_inputs.specs.Troubles.{with_number};
-ghost use Rattle.project_commands.specs.Requests.{Grants, RefusesTo};
+ghost use Rattle.annotation_cli.specs.Commands.Requests.{Grants, RefusesTo};
 ghost use Rattle.annotation_cli.specs.Importing.{Commits, Imports, ImportsFile, ImportsHere, Loads, NoLayer, NotCommitted, NotImported, NotImportedFrom, NotImportedHere, NotLoaded, NotRead, Reads, ReadsLayer, park_of};
 
+use crate::commands::{ask_granted, check_out};
 use annotation_conf::Conf;
-use book_exchange::{Held, park_request};
+use annotation_http::{Held, park_request};
 use char_documents::Doc;
 use layer_core::{Command, Refusal};
 use layer_model::Layer;
 use mark_base::{Bytes, Memory, Slug, Steps};
 use named_disks::Disks;
-use program_inputs::{Folder, Trouble, read_ann_file, with_number};
-use project_book::Book;
-use project_commands::{ask_granted, check_out};
-use project_files::{give_project_back, open_project};
+use program_inputs::{
+    Folder, Trouble, give_project_back, open_project, read_ann_file, with_number,
+};
+use project_book::{Book, BookRefusal, Reply, Request};
 use project_journal::Keeper;
-use project_state::{BookRefusal, Reply, Request};
 use std::alloc::Global;
 use std::sync::Arc;
 use std::sync::ledger::Ledger;

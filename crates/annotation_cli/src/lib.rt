@@ -26,9 +26,12 @@ mod adding;
 mod agreeing;
 mod asked;
 mod columns_in;
+mod commands;
+mod compacting;
 mod examples;
 mod finding;
 mod founding;
+mod help;
 mod importing;
 mod printing;
 pub mod run;
@@ -40,8 +43,13 @@ mod world;
 pub use crate::adding::add_document;
 pub use crate::agreeing::show_agreement;
 pub use crate::asked::{has_hyphen, number_read};
+pub use crate::commands::{
+    add_text, ask_granted, check_out, requests_are_granted_or_refused, serve, slug_of, try_project,
+};
+pub use crate::compacting::compact;
 pub use crate::examples::examples_of_words;
 pub use crate::founding::found_in_file;
+pub use crate::help::help_text;
 pub use crate::importing::import_file;
 pub use crate::printing::print_found;
 pub use crate::sessions::serve_session;

@@ -2,19 +2,19 @@
 ghost use Rattle.std.specs.Prelude.{◌≡◌, ◌≢◌, ◌<◌, ◌⊎◌, ℕ, List, map, option_map, string_bytes, IfErr, IsErrOf, None};
 ghost use Rattle.mark_base.specs.Streams.{Rose, TellsFault};
 ghost use Rattle.named_disks.specs.NamedDisks.{IsIn};
-ghost use Rattle.annotation_cli.specs.Asked.{book_of, command_in, command_of};
+ghost use Rattle.annotation_cli.specs.Asked.{NamesTwo, command_in, command_of};
 ghost use Rattle.annotation_cli.specs.Run.{Does, KeepsBut, Runs, looks_for_faults};
 
 use crate::asked::{BookJob, Job, job_of};
 use crate::columns_in::columns_in;
+use crate::commands::try_project;
 use crate::finding::find;
 use crate::verify::verify;
 use crate::world::World;
-use crate::{print_found, serve_session};
+use crate::{compact, help_text, print_found, serve_session};
 use mark_base::{Link, Memory, Sink, Steps};
 use named_disks::Disks;
 use program_inputs::{Folder, Trouble, end_run};
-use project_commands::try_project;
 use std::alloc::Global;
 use std::marker::Brand;
 use std::sync::ledger::{Blank, Ledger};
@@ -29,11 +29,12 @@ fn perform<F: Folder, C: Link, D: Disks, G: Ledger>(
     steps: &mut Steps<G>,
 ) -> Result<(), Trouble>
     requires free { (name : List ℕ) → IsIn (D.out disks.old) name }
+    requires apart { NamesTwo (option_map command_in job) }
     ensures told { Does (F.file folder.old) (option_map command_in job.entry) (D.faultless disks.old)
         (record { folder_faults = F.folder_faults folder.old; left = C.left console.old; held = C.held console.old; stored = D.stored disks.old })
         (record { folder_faults = F.folder_faults folder.new; left = C.left console.new; held = C.held console.new; stored = D.stored disks.new }) result }
     ensures free { (name : List ℕ) → IsIn (D.out disks.new) name }
-    ensures others { KeepsBut (book_of (option_map command_in job.entry)) (D.stored disks.old) (D.out disks.old) (D.stored disks.new) (D.out disks.new) }
+    ensures others { KeepsBut (option_map command_in job.entry) (D.stored disks.old) (D.out disks.old) (D.stored disks.new) (D.out disks.new) }
     ensures stays { D.faultless disks.old → D.faultless disks.new }
     ensures never { D.faultless disks.old → IsErrOf result Trouble.DiskFailed → ⊥ }
     ensures folder { TellsFault (IsErrOf result Trouble.FileFailed) (F.folder_faults folder.old) (F.folder_faults folder.new) }
@@ -42,6 +43,10 @@ fn perform<F: Folder, C: Link, D: Disks, G: Ledger>(
 {
     match job {
         None => Err(Trouble::Usage),
+        Some(Job::Help) => {
+            let text = help_text(alloc);
+            print_found(console, text)
+        }
         Some(Job::Try { conf, text }) => try_project(alloc, conf, text, folder, console, steps),
         Some(Job::Verify { conf, text, ann }) => verify(alloc, conf, text, ann, folder, console),
         Some(
@@ -52,6 +57,10 @@ fn perform<F: Folder, C: Link, D: Disks, G: Ledger>(
             },
         ) => columns_in(alloc, conf, text, columns, folder, console),
         Some(Job::Session { book }) => serve_session(alloc, book, disks, console, steps),
+        Some(Job::Compact { book, made }) => {
+            let found = compact(alloc, book, made, disks);
+            print_found(console, found)
+        }
         Some(Job::Book(job)) => {
             let found = find(alloc, job, folder, disks, steps);
             print_found(console, found)
@@ -69,6 +78,7 @@ fn perform_counted<F: Folder, C: Link, D: Disks, G: Ledger>(
     blank: Blank,
 ) -> Result<(), Trouble>
     requires free { (name : List ℕ) → IsIn (D.out disks.old) name }
+    requires apart { NamesTwo (option_map command_in job) }
     requires name { blank.name ≡ G.name }
     requires parts { blank.parts ≡ G.parts }
     requires some { 0 < G.parts }
@@ -76,7 +86,7 @@ fn perform_counted<F: Folder, C: Link, D: Disks, G: Ledger>(
         (record { folder_faults = F.folder_faults folder.old; left = C.left console.old; held = C.held console.old; stored = D.stored disks.old })
         (record { folder_faults = F.folder_faults folder.new; left = C.left console.new; held = C.held console.new; stored = D.stored disks.new }) result }
     ensures free { (name : List ℕ) → IsIn (D.out disks.new) name }
-    ensures others { KeepsBut (book_of (option_map command_in job.entry)) (D.stored disks.old) (D.out disks.old) (D.stored disks.new) (D.out disks.new) }
+    ensures others { KeepsBut (option_map command_in job.entry) (D.stored disks.old) (D.out disks.old) (D.stored disks.new) (D.out disks.new) }
     ensures stays { D.faultless disks.old → D.faultless disks.new }
     ensures never { D.faultless disks.old → IsErrOf result Trouble.DiskFailed → ⊥ }
     ensures folder { TellsFault (IsErrOf result Trouble.FileFailed) (F.folder_faults folder.old) (F.folder_faults folder.new) }
@@ -102,6 +112,7 @@ fn looks_for_faults(job: &Option<Job<'_>>) -> bool
 ///
 /// | words | what is done | printed |
 /// |---|---|---|
+/// | `--help` | | every command with an example |
 /// | `try CONF TEXT` | a project in memory is founded on a configuration and a text, and the console is served from a desk on it | the answers |
 /// | `found BOOK CONF ROSTER`, `found-at BOOK CONF ROSTER LEVEL` | a project is founded in a file, the second at a level of the tree of types | `annotators 3 curators 1` |
 /// | `add BOOK CALLER NAME TEXT` | a text becomes a document of the project | `tokens 4` |
@@ -110,6 +121,7 @@ fn looks_for_faults(job: &Option<Job<'_>>) -> bool
 /// | `export BOOK WHO NAME` | | the committed layer as .ann lines |
 /// | `agree BOOK` | | both tables of agreement, with an empty line between |
 /// | `curated BOOK NUMBER` | | the curated layer of a snapshot as .ann lines |
+/// | `compact BOOK MADE` | another file becomes a journal that begins with the state of the project | `place 2` |
 /// | `verify CONF TEXT ANN` | three files are read | how many annotations of each sort the last one has |
 /// | `columns-in CONF TEXT COLUMNS` | three files are read | the layer of a column file as .ann lines |
 ///
@@ -136,7 +148,7 @@ pub fn run<F: Folder, C: Link, P: Sink, D: Disks>(
         (P.held world.old.complaint) (P.held world.new.complaint) (P.write_faults world.old.complaint) (P.write_faults world.new.complaint) result }
     ensures words { result ≡ 2 → command_of (map string_bytes words.now) ≡ None }
     ensures free { (name : List ℕ) → IsIn (D.out world.new.disks) name }
-    ensures others { KeepsBut (book_of (command_of (map string_bytes words.now))) (D.stored world.old.disks) (D.out world.old.disks) (D.stored world.new.disks) (D.out world.new.disks) }
+    ensures others { KeepsBut (command_of (map string_bytes words.now)) (D.stored world.old.disks) (D.out world.old.disks) (D.stored world.new.disks) (D.out world.new.disks) }
 
     // A disk that cannot fail gives no status 4.
     ensures folder { result ≡ 4 → Rose (F.folder_faults world.old.folder) (F.folder_faults world.new.folder) ⊎ (D.faultless world.old.disks → ⊥) }

@@ -4,13 +4,12 @@ ghost use Rattle.mark_base.specs.Streams.{TellsFault};
 ghost use Rattle.named_disks.specs.NamedDisks.{IsIn, KeepsOthers, reads_as};
 ghost use Rattle.annotation_cli.specs.Sessions.{ServesBook, SessionTold};
 
-use book_exchange::Start;
+use crate::commands::serve;
+use annotation_http::Start;
 use mark_base::{Link, Steps};
 use named_disks::Disks;
-use program_inputs::Trouble;
+use program_inputs::{Trouble, give_project_back, open_project};
 use project_book::{Alone, Book};
-use project_commands::serve;
-use project_files::{give_project_back, open_project};
 use project_journal::Keeper;
 use std::alloc::Global;
 use std::sync::ledger::Ledger;

@@ -1,6 +1,6 @@
 //! The people of a case.
 use case_words::{CaseFault, CaseWhat, Section, people_of};
-use project_state::Roster;
+use project_book::Roster;
 use std::alloc::Global;
 
 /// The roster of the people of a section.

@@ -1,6 +1,6 @@
 //! The names of refusals.
 use curator_decisions::DecisionFault;
-use project_state::{BookRefusal, Reply};
+use project_book::{BookRefusal, Reply};
 
 /// The name of why a decision is refused, and of the rule that it would break.
 fn fault_name(fault: DecisionFault) -> &'static str {

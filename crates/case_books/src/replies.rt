@@ -6,7 +6,7 @@ use annotation_conf::{Conf, write_conf};
 use case_desks::layer_text;
 use case_words::{CaseFault, counted, quoted};
 use mark_base::Memory;
-use project_state::{BookRefusal, DocList, Reply};
+use project_book::{BookRefusal, DocList, Reply};
 use std::alloc::Global;
 
 /// A word and a text between quotation marks.

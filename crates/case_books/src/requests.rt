@@ -4,7 +4,7 @@ use case_desks::{doc_of, layer_of, script_of};
 use case_words::{Asked, CaseFault};
 use curator_decisions::Verdict;
 use layer_model::Layer;
-use project_state::Request;
+use project_book::Request;
 use std::alloc::Global;
 use std::sync::Arc;
 

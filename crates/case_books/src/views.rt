@@ -5,7 +5,7 @@ use curator_decisions::Verdict;
 use layer_model::Snapshot;
 use layer_undo::Script;
 use mark_base::Memory;
-use project_state::{Out, SnapshotView};
+use project_book::{Out, SnapshotView};
 use std::alloc::Global;
 use unanimous_merge::ItemId;
 

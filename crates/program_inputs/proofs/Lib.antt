@@ -1,2 +1,3 @@
 mod Documents
 pub mod Troubles
+pub mod ProjectFilesProofs

@@ -21,7 +21,7 @@ use Rattle.roster_file.specs.declared.roster_read.RosterRead.{RosterRead}
 use Rattle.roster_file.specs.declared.roster_read.RosterRead.TheVariants as roster
 use Rattle.program_inputs.specs.declared.trouble.Trouble.{Trouble}
 use Rattle.project_machine.specs.declared.book_refusal.BookRefusal.{BookRefusal}
-use Rattle.json_answers.specs.Refusals.{name_of}
+use Rattle.http_answers.specs.AnswerBodies.Refusals.{name_of}
 use Rattle.program_inputs.specs.declared.trouble.Trouble.TheVariants.{Usage, Conf, Ann, Columns, ColumnsOut, Roster, TextNotUtf8, TextTooLong, FileAbsent, FileTooLong, FileFailed, NotAJournal, NewerVersion, Damaged, AlreadyThere, BookTooLong, BadEntry, Refused, DiskFailed, DoorFailed, Cut, BadHead, NeedsLength, TooLarge, Encoded, Spent, ReadFault, WriteFault, Memory}
 
 -- what is said of a fault of an .ann file: its name, and the place or the rule that it carries

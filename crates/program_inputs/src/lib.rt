@@ -7,6 +7,8 @@
 //! let conf = read_conf_file(alloc, &mut folder, "schema.conf")?;     // Err(Trouble::Conf { line: 3, what: NameTwice })
 //! let status = end_run(alloc, &mut complaint, done, false);          // "conf line 3: NameTwice\n", 3
 //! ```
+//!
+//! [`open_project`] takes the file of a project from named disks, and [`give_project_back`] gives it back.
 #![tactic(auto)]
 
 mod complaint;
@@ -14,6 +16,7 @@ mod examples;
 mod files;
 mod folder;
 mod memory_folder;
+mod project_files;
 mod trouble;
 
 pub use crate::complaint::end_run;
@@ -23,4 +26,5 @@ pub use crate::files::{
 };
 pub use crate::folder::{Folder, FolderFault};
 pub use crate::memory_folder::MemoryFolder;
+pub use crate::project_files::{found_project, give_project_back, make_file, open_project};
 pub use crate::trouble::{Trouble, with_number};

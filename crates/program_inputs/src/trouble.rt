@@ -5,7 +5,7 @@ ghost use Rattle.program_inputs.specs.Troubles.{ann_name, at_line, at_row, colum
 
 use ann_reader::AnnWhat;
 use annotation_conf::ConfWhat;
-use json_answers::refusal_name;
+use http_answers::refusal_name;
 use layer_core::id_text;
 use mark_base::{AnnId, Memory};
 use project_machine::BookRefusal;

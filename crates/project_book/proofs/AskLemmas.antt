@@ -18,9 +18,9 @@ use Rattle.label_tracks.specs.Levels.{Grouping}
 use Rattle.kappa_alpha.specs.Standing.{Standing}
 use Rattle.project_machine.specs.ProjectState.{ProjectState}
 use Rattle.project_state.specs.Values.{answer_of}
-use Rattle.project_steps.specs.declared.judging.Judged.{Judged}
-use Rattle.project_steps.specs.declared.judging.Kept.{Kept}
-use Rattle.project_steps.specs.Judging.{IsJudged, IsKeptChange, kept_happens}
+use Rattle.project_steps.specs.declared.steps.judging.Judged.{Judged}
+use Rattle.project_steps.specs.declared.steps.judging.Kept.{Kept}
+use Rattle.project_steps.specs.Steps.Judging.{IsJudged, IsKeptChange, kept_happens}
 use Rattle.project_book.specs.Keeping.{BookValue, Follows, GoesAlong, Stands, TellsKeeper}
 use Rattle.project_book.specs.Answering.{IsAnswered, answer_behind}
 use Rattle.project_book.specs.Replaying.{IsMadeBy}

@@ -17,45 +17,35 @@ use Rattle.project_machine.specs.History.{after, effect, encoded, last, place_be
 use Rattle.project_machine.specs.Legal.{HasRoom, IsLegal}
 use Rattle.project_machine.specs.Tables.{standing_of}
 use Rattle.project_machine.specs.Asking.{IsKeptBy, IsNext, StaysOrGoes}
-use Rattle.project_machine.proofs.HistoryLemmas.{after_more, last_low, length_push, place_last}
+use Rattle.project_machine.proofs.HistoryLemmas.{after_more, last_low, legal_some, length_push, place_last, step_next}
 use Rattle.project_machine.proofs.OpenLemmas.{encoded_more}
 use Rattle.project_state.specs.declared.act.Act.{Act}
 use Rattle.project_state.specs.declared.act.Act.TheVariants as act
 use Rattle.project_state.specs.declared.change.Change.{Change}
-use Rattle.project_state.specs.declared.change.Change.TheVariants as change
 use Rattle.project_state.specs.Acting.{performed}
 use Rattle.project_state.specs.Values.{happened_of}
-use Rattle.project_steps.specs.declared.judging.Kept.{Kept}
-use Rattle.project_steps.specs.Judging.{kept_happens}
-use Rattle.project_tables.specs.declared.tabling.TableAct.{TableAct}
-use Rattle.project_tables.specs.declared.tabling.TableAct.TheVariants as table
-use Rattle.project_tables.specs.Tabling.{CanTable, HasSpare, IsTableAct, most_steps, spare_behind, tabled}
+use Rattle.project_steps.specs.declared.steps.judging.Kept.{Kept}
+use Rattle.project_steps.specs.Steps.Judging.{kept_happens}
+use Rattle.project_state.specs.declared.tables.tabling.TableAct.{TableAct}
+use Rattle.project_state.specs.declared.tables.tabling.TableAct.TheVariants as table
+use Rattle.project_state.specs.Tables.Tabling.{CanTable, HasSpare, IsTableAct, most_steps, spare_behind, tabled}
 use Rattle.project_book.specs.Keeping.{AreTables, Follows, GoesAlong, Stands, TellsKeeper}
+use Rattle.project_book.proofs.EntryLemmas.{Goes, by_freeing, by_request, goes}
 
 -- ---- the history goes on
 
--- what a change of a book makes happen stands at the next place
-next_place : (change : Change) (n : ℕ) → place_behind (happened_of change) n ≡ n + 1
-next_place (change.Found conf roster) n = refl
-next_place (change.AddText by name text) n = refl
-next_place (change.Checkout by doc) n = refl
-next_place (change.TakeOver by doc) n = refl
-next_place (change.Commit by doc hold layer) n = refl
-next_place (change.Park by doc hold done undone) n = refl
-next_place (change.Finish by doc) n = refl
-next_place (change.Reopen by doc who) n = refl
-next_place (change.Snap by doc) n = refl
-next_place (change.Decide by number holder id verdict) n = refl
-next_place (change.Undecide by number holder id) n = refl
-next_place change.FreeAll n = refl
-next_place (change.Ignore by doc who) n = refl
-next_place (change.Readmit by doc who) n = refl
-next_place (change.FoundAt conf roster level) n = refl
+placed : (log : List Happened) (e : Happened) (n : ℕ) → Goes log e → place_behind e n ≡ n + 1
+placed log e n (by_request caller asked typed is) = step_next (after log) caller asked e n is
+placed log e n (by_freeing same is) = ap (λ (x : Happened). place_behind x n) same
+
+-- what goes on with a history stands at the next place
+next_place : (log : List Happened) (kept : Kept) (n : ℕ) → 0 < length log → Follows log kept → place_behind (kept_happens kept) n ≡ n + 1
+next_place log kept n some next = placed log (kept_happens kept) n (goes log (kept_happens kept) some next.legal)
 
 -- the act makes the state behind the change
-pub follows_state : (log : List Happened) (kept : Kept) → Follows log kept → performed kept.act (after log) ≡ after (log ++ kept_happens kept ∷ [])
-follows_state log kept next =
-    next.change.acts ∙ sym (after_more log (kept_happens kept) ∙ ap (λ n. effect n (kept_happens kept) (after log)) (next_place kept.change (after log).place))
+pub follows_state : (log : List Happened) (kept : Kept) → 0 < length log → Follows log kept → performed kept.act (after log) ≡ after (log ++ kept_happens kept ∷ [])
+follows_state log kept some next =
+    next.change.acts ∙ sym (after_more log (kept_happens kept) ∙ ap (λ n. effect n (kept_happens kept) (after log)) (next_place log kept (after log).place some next))
 
 -- a change that stands at the next place has one entry
 pub one_entry : (s : ProjectState) (e : Happened) → place_behind e 0 ≡ 1 → place_behind e 1 ≡ 2 → entries_of s e ≡ entry_of s e ∷ []
@@ -76,23 +66,23 @@ one_entry s AllFreed first second = refl
 one_entry s (Restored place state) first second = absurd (omega (arith, first, second))
 
 -- the entries of a history that goes on by a change are one more
-pub follows_encoded : (log : List Happened) (kept : Kept) → Follows log kept → encoded (log ++ kept_happens kept ∷ []) ≡ encoded log ++ kept.entry ∷ []
-follows_encoded log kept next =
+pub follows_encoded : (log : List Happened) (kept : Kept) → 0 < length log → Follows log kept → encoded (log ++ kept_happens kept ∷ []) ≡ encoded log ++ kept.entry ∷ []
+follows_encoded log kept some next =
     encoded_more log (kept_happens kept)
-    ∙ (ap (λ es. encoded log ++ map entry_bytes es) (one_entry (after log) (kept_happens kept) (next_place kept.change 0) (next_place kept.change 1))
+    ∙ (ap (λ es. encoded log ++ map entry_bytes es) (one_entry (after log) (kept_happens kept) (next_place log kept 0 some next) (next_place log kept 1 some next))
     ∙ ap (λ bytes. encoded log ++ bytes ∷ []) (sym next.change.entry))
 
 -- ---- what the keeper tells
 
-told_more : (log : List Happened) (kept : Kept) (old : Option (List (List ℕ))) → Follows log kept → IfSome old (λ told. told ≡ encoded log)
+told_more : (log : List Happened) (kept : Kept) (old : Option (List (List ℕ))) → 0 < length log → Follows log kept → IfSome old (λ told. told ≡ encoded log)
     → IfSome (option_map (λ entries. entries ++ kept.entry ∷ []) old) (λ told. told ≡ encoded (log ++ kept_happens kept ∷ []))
-told_more log kept None next is = tt
-told_more log kept (Some told) next is = ap (λ es. es ++ kept.entry ∷ []) is ∙ sym (follows_encoded log kept next)
+told_more log kept None some next is = tt
+told_more log kept (Some told) some next is = ap (λ es. es ++ kept.entry ∷ []) is ∙ sym (follows_encoded log kept some next)
 
-pub kept_more : (log : List Happened) (kept : Kept) (old new : Option (List (List ℕ))) (doubt doubt_new : Option (List ℕ)) → Follows log kept → IsKeptBy log old doubt
+pub kept_more : (log : List Happened) (kept : Kept) (old new : Option (List (List ℕ))) (doubt doubt_new : Option (List ℕ)) → 0 < length log → Follows log kept → IsKeptBy log old doubt
     → new ≡ option_map (λ entries. entries ++ kept.entry ∷ []) old → doubt_new ≡ None → IsKeptBy (log ++ kept_happens kept ∷ []) new doubt_new
-kept_more log kept old new doubt doubt_new next by is none = record {
-  entries = subst (λ o. IfSome o (λ told. told ≡ encoded (log ++ kept_happens kept ∷ []))) (sym is) (told_more log kept old next by.entries);
+kept_more log kept old new doubt doubt_new some next by is none = record {
+  entries = subst (λ o. IfSome o (λ told. told ≡ encoded (log ++ kept_happens kept ∷ []))) (sym is) (told_more log kept old some next by.entries);
   next = subst (λ o. IfSome o (IsNext (log ++ kept_happens kept ∷ []))) (sym none) tt;
 }
 
@@ -187,10 +177,10 @@ pub stands_next : (log : List Happened) (kept : Kept) (state_old state : Project
 stands_next log kept state_old state groups tables_old roomed tables told_old told doubt_old doubt t stands next short tabling made_room made performs told_is certain = record {
   legal = next.legal;
   room = room_more log (kept_happens kept) short;
-  state_is = performs ∙ (ap (performed kept.act) stands.state_is ∙ follows_state log kept next);
+  state_is = performs ∙ (ap (performed kept.act) stands.state_is ∙ follows_state log kept (legal_some log stands.legal) next);
   tables_are = subst (λ (s : ProjectState). AreTables s tables) (sym performs) (tables_behind state_old kept.act t roomed tables (roomy state_old tables_old roomed stands.tables_are made_room) tabling made);
   groups_are = subst (λ (s : ProjectState). groups ≡ grouping_of s.conf.types s.level) (sym performs) (groups_stay kept.act state_old groups stands.groups_are);
-  kept_is = kept_more log kept told_old told doubt_old doubt next stands.kept_is told_is certain;
+  kept_is = kept_more log kept told_old told doubt_old doubt (legal_some log stands.legal) next stands.kept_is told_is certain;
 }
 
 -- a book where room was made, and where the keeper refused a change

@@ -32,9 +32,9 @@ use Rattle.project_machine.proofs.HistoryLemmas.{IsGranted, granted, length_push
 use Rattle.project_machine.proofs.KeptLemmas.{allowed, annotates, any_within, tests_free, unmet}
 use Rattle.project_machine.proofs.LegalLemmas.{none_some, some_same}
 use Rattle.project_machine.proofs.RowLemmas.{or_first, or_second}
-use Rattle.project_entries.proofs.RosterLemmas.{few_people}
-use Rattle.project_pieces.proofs.ConfLemmas.{ReadBack, conf_is_utf8}
-use Rattle.project_entries.proofs.SizeLemmas.{commit_long, text_size}
+use Rattle.project_state.proofs.EntriesProofs.RosterLemmas.{few_people}
+use Rattle.project_book.proofs.StatePiecesProofs.ConfLemmas.{ReadBack, conf_is_utf8}
+use Rattle.project_state.proofs.EntriesProofs.SizeLemmas.{commit_long, text_size}
 use Rattle.project_machine.specs.declared.book_refusal.Policy.TheVariants as policy
 
 -- ---- a founding

@@ -4,9 +4,12 @@ mod NumberLemmas
 mod AskLemmas
 mod FoundingLemmas
 mod VisitLemmas
+mod RestoredLemmas
 mod AcceptLemmas
 mod EntryLemmas
 mod ReplayLemmas
 mod BegunLemmas
 mod OpeningLemmas
 mod PieceLemmas
+pub mod StatePiecesProofs
+pub mod RestoringProofs

@@ -13,8 +13,8 @@ use Rattle.project_machine.specs.Asking.{IsKeptBy, IsNext, StaysOrGoes}
 use Rattle.project_machine.specs.History.{after, encoded}
 use Rattle.project_machine.specs.Legal.{HasRoom, IsLegal}
 use Rattle.project_machine.specs.Opening.{IsFreeingDoubted, IsGivenBack, IsKeptOpen, IsLeftByOpening, IsOpened, IsReplay, IsToFree, freeing_bytes, with_freeing}
-use Rattle.project_steps.specs.declared.judging.Kept.{Kept}
-use Rattle.project_steps.specs.Judging.{kept_happens}
+use Rattle.project_steps.specs.declared.steps.judging.Kept.{Kept}
+use Rattle.project_steps.specs.Steps.Judging.{kept_happens}
 use Rattle.project_book.specs.declared.open_fault.OpenFault.{OpenFault}
 use Rattle.project_book.specs.declared.open_fault.OpenFault.TheVariants as fault
 use Rattle.project_book.specs.Keeping.{Stands}

@@ -21,18 +21,18 @@ use Rattle.project_machine.specs.Legal.{IsFounding, IsKept, IsLegal, legal_found
 use Rattle.project_machine.specs.Opening.{GoesOn, IsBadEntry, IsBegun, IsReplay, freeing_bytes, is_lacking, is_not_accepted}
 use Rattle.project_machine.proofs.HistoryLemmas.{front_legal, legal_some, step_next}
 use Rattle.project_machine.proofs.OpenLemmas.{encoded_more}
-use Rattle.project_entries.specs.declared.asking.Asking.{Asking}
-use Rattle.project_entries.specs.Asking.{CanBeNext, TellsRequest, plain_asking}
-use Rattle.project_entries.specs.declared.founding.Founding.{Founding}
-use Rattle.project_entries.specs.Founding.{IsFoundingOf, founded as told_founding}
-use Rattle.project_pieces.proofs.ConfLemmas.{ReadBack}
+use Rattle.project_state.specs.declared.entries.asking.Asking.{Asking}
+use Rattle.project_state.specs.Entries.Asking.{CanBeNext, TellsRequest, plain_asking}
+use Rattle.project_state.specs.declared.entries.founding.Founding.{Founding}
+use Rattle.project_state.specs.Entries.Founding.{IsFoundingOf, founded as told_founding}
+use Rattle.project_book.proofs.StatePiecesProofs.ConfLemmas.{ReadBack}
 use Rattle.project_state.specs.declared.act.Act.{Act}
 use Rattle.project_state.specs.declared.act.Act.TheVariants as act
 use Rattle.project_state.specs.declared.change.Change.TheVariants as change
 use Rattle.project_state.specs.Acting.{CanAct, FitsRows, performed}
 use Rattle.project_state.specs.Values.{happened_of}
-use Rattle.project_steps.specs.declared.judging.Kept.{Kept}
-use Rattle.project_steps.specs.Judging.{kept_happens}
+use Rattle.project_steps.specs.declared.steps.judging.Kept.{Kept}
+use Rattle.project_steps.specs.Steps.Judging.{kept_happens}
 use Rattle.project_book.specs.Founding.{founded}
 use Rattle.project_book.specs.Replaying.{HasEntry, IsAskedBy, IsAskingOf, IsFoundingBy, IsFreeing, IsMadeBy, IsNextKept, IsNoBeginning, IsNoneNext, IsOnlyNext, IsReading, IsTakenUp}
 use Rattle.project_book.proofs.BookLemmas.{one_entry}

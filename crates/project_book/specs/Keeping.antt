@@ -9,10 +9,10 @@ use Rattle.project_machine.specs.History.{after}
 use Rattle.project_machine.specs.Legal.{HasRoom, IsLegal}
 use Rattle.project_machine.specs.Tables.{standing_of}
 use Rattle.project_machine.specs.Asking.{IsKeptBy}
-use Rattle.project_tables.specs.declared.tabling.TableAct.{TableAct}
-use Rattle.project_tables.specs.Tabling.{most_steps, tabled}
-use Rattle.project_steps.specs.declared.judging.Kept.{Kept}
-use Rattle.project_steps.specs.Judging.{IsKeptChange, kept_happens}
+use Rattle.project_state.specs.declared.tables.tabling.TableAct.{TableAct}
+use Rattle.project_state.specs.Tables.Tabling.{most_steps, tabled}
+use Rattle.project_steps.specs.declared.steps.judging.Kept.{Kept}
+use Rattle.project_steps.specs.Steps.Judging.{IsKeptChange, kept_happens}
 
 -- a book, as contracts see it: its history, its keeper and its tables
 pub record BookValue (K : Type 0) : Type 0 where

@@ -1,3 +1,4 @@
+pub mod Restoring
 pub mod Keeping
 pub mod Codes
 pub mod Founding

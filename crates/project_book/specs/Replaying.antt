@@ -11,11 +11,11 @@ use Rattle.project_machine.specs.Legal.{IsFounding, IsLegal}
 use Rattle.project_machine.specs.Opening.{IsBadEntry, IsReplay, freeing_bytes}
 use Rattle.project_machine.specs.ProjectState.{is_some_out}
 use Rattle.project_machine.specs.Requests.{Asked, Happened, AllFreed}
-use Rattle.project_entries.specs.declared.asking.Asking.{Asking}
-use Rattle.project_entries.specs.declared.founding.Founding.{Founding}
-use Rattle.project_entries.specs.Asking.{plain_asking}
-use Rattle.project_steps.specs.declared.judging.Kept.{Kept}
-use Rattle.project_steps.specs.Judging.{kept_happens}
+use Rattle.project_state.specs.declared.entries.asking.Asking.{Asking}
+use Rattle.project_state.specs.declared.entries.founding.Founding.{Founding}
+use Rattle.project_state.specs.Entries.Asking.{plain_asking}
+use Rattle.project_steps.specs.declared.steps.judging.Kept.{Kept}
+use Rattle.project_steps.specs.Steps.Judging.{kept_happens}
 use Rattle.project_book.specs.declared.open_fault.OpenFault.{OpenFault}
 use Rattle.project_book.specs.declared.open_fault.OpenFault.TheVariants as fault
 use Rattle.project_book.specs.Founding.{founded}

@@ -17,9 +17,11 @@ use entry_bytes::entries_have_bytes;
 use kappa_alpha::Tables;
 use label_tracks::Groups;
 use mark_base::{Bytes, Memory};
-use project_entries::{Written, change_bytes, names_are_spelt};
 use project_journal::{Keeper, KeeperFault};
-use project_state::{BookState, Change, Roster, rosters_can_found, states_can_be_restored};
+use project_state::{
+    BookState, Change, Roster, Written, change_bytes, names_are_spelt, rosters_can_found,
+    states_can_be_restored,
+};
 use std::alloc::Global;
 use std::sync::Arc;
 

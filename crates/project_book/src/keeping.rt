@@ -6,8 +6,8 @@ ghost use Rattle.project_journal.specs.Stops.{LeavesOnly};
 ghost use Rattle.project_machine.specs.Asking.{StaysOrGoes};
 ghost use Rattle.project_machine.specs.Legal.{HasRoom, IsKept};
 ghost use Rattle.project_state.specs.Acting.{CanAct, FitsRows, HasMemory};
-ghost use Rattle.project_steps.specs.Judging.{kept_happens};
-ghost use Rattle.project_tables.specs.Tabling.{IsTableAct};
+ghost use Rattle.project_steps.specs.Steps.Judging.{kept_happens};
+ghost use Rattle.project_state.specs.Tables.Tabling.{IsTableAct};
 ghost use Rattle.project_book.specs.Keeping.{Follows, GoesAlong, TellsKeeper};
 
 use crate::book::Book;
@@ -16,9 +16,8 @@ use kappa_alpha::Tables;
 use label_tracks::Groups;
 use mark_base::{Memory, Steps};
 use project_journal::{Keeper, KeeperFault};
-use project_state::{Act, BookState, Change, states_can_be_restored};
+use project_state::{Act, BookState, Change, TableAct, apply, states_can_be_restored, table_act};
 use project_steps::Kept;
-use project_tables::{TableAct, apply, table_act};
 use std::alloc::Global;
 use std::sync::ledger::Ledger;
 

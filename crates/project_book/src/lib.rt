@@ -33,6 +33,8 @@ mod open_fault;
 mod opening;
 mod pieces;
 mod replaying;
+mod restoring;
+mod state_pieces;
 mod visitor;
 
 pub use crate::alone::Alone;
@@ -40,8 +42,11 @@ pub use crate::book::Book;
 pub use crate::found_fault::FoundFault;
 pub use crate::laws::verdicts_are_accepted;
 pub use crate::open_fault::OpenFault;
+pub use crate::restoring::{is_sound, restore, run_length};
+pub use crate::state_pieces::states_are_told_apart;
 pub use crate::visitor::Visitor;
 pub use project_state::{
     BookRefusal, BookState, Change, DocLine, DocList, Out, PairList, Policy, Reply, Request,
     Roster, RosterFault, SnapshotView,
 };
+pub use project_steps::{Judged, Kept, is_typed, judge};

@@ -12,7 +12,7 @@ pub enum OpenFault {
     BadEntry(u64),
     /// The keeper failed, and counted it.
     Keeper,
-    /// Memory ran out; or the entries begin with a whole state in place of a founding, which is not read yet.
+    /// Memory ran out; or the entries begin with a run of pieces of which no state that can be restored is read.
     Memory,
 }
 

@@ -8,9 +8,9 @@ ghost use Rattle.project_machine.specs.ProjectState.{is_some_out};
 
 use crate::book::Book;
 use crate::laws::verdicts_are_accepted;
+use crate::state_pieces::{pieces, states_are_told_apart};
 use mark_base::{Bytes, Memory};
 use project_journal::Keeper;
-use project_pieces::{pieces, states_are_told_apart};
 use project_state::states_can_be_restored;
 
 /// The greatest place at which a project can begin.
@@ -27,7 +27,7 @@ impl<K: Keeper> Book<K> {
 
     /// The state of the project as a run of pieces, with which a journal can begin in place of the history. No layer
     /// may be out. `Memory` is answered too where the place is above 2^62, or a piece would have more than 16,777,216
-    /// bytes. Cost: as `pieces` of `project_pieces`.
+    /// bytes. Cost: as `pieces` of `state_pieces`.
     pub fn pieces(&self) -> Result<Vec<Bytes>, Memory>
         requires { is_some_out (after self.now.log) ≡ false }
         // They are the entries of the history whose one change is this state, restored, and begin no other.

@@ -1,9 +1,12 @@
 //! A history that is told again by the entries of a journal, one after another.
-ghost use Rattle.std.specs.Prelude.{◌≡◌, ◌≢◌, ◌<◌, ◌≤◌, ℕ, List, [], ◌∷◌, IfErr, IfNone, IfOk, IfSome, OnOk, Some, false, length, slice_get, take, true};
+ghost use Rattle.std.specs.Prelude.{◌≡◌, ◌≢◌, ◌<◌, ◌≤◌, ℕ, List, [], ◌∷◌, IfErr, IfNone, IfOk, IfSome, OnOk, Some, false, length, map, slice_get, take, true};
 ghost use Rattle.std.specs.Arc.{arc_value};
-ghost use Rattle.project_machine.specs.Legal.{IsFounding};
-ghost use Rattle.project_machine.specs.Opening.{IsReplay, freeing_bytes};
-ghost use Rattle.project_entries.specs.Asking.{plain_asking};
+ghost use Rattle.project_machine.specs.Legal.{IsFounding, IsSound};
+ghost use Rattle.project_machine.specs.Opening.{IsReplay, freeing_bytes, restored};
+ghost use Rattle.project_machine.specs.ProjectState.{ProjectState};
+ghost use Rattle.project_state.specs.Values.{happened_of};
+ghost use Rattle.project_book.specs.Restoring.Restoring.{IsRun};
+ghost use Rattle.project_state.specs.Entries.Asking.{plain_asking};
 ghost use Rattle.project_book.specs.Founding.{founded};
 ghost use Rattle.project_book.specs.Replaying.{BeginsSo, IsAskedBy, IsAskingOf, IsFoundingBy, IsFreeing, IsMadeBy, IsNextKept, IsReading, IsReplayRefusal, IsTakenUp};
 
@@ -11,16 +14,21 @@ use crate::book::Book;
 use crate::founding::{Beginning, complete, founding_change, share};
 use crate::kept_already::KeptAlready;
 use crate::open_fault::OpenFault;
+use crate::restoring::{restore, run_length};
 use ann_writer::written_layers_are_utf8;
 use annotation_conf::sound_configurations_are_read_back;
 use entry_bytes::{Entry, entries_are_told_apart, read_entry, write_entry};
+use label_tracks::Groups;
 use mark_base::{Bytes, Memory, Steps};
-use project_entries::{Asking, Founding, asking_of, founding_of};
 use project_journal::Keeper;
-use project_state::{Act, BookState, Change, changes_tell_their_requests, states_can_be_restored};
+use project_state::{
+    Act, Asking, BookState, Change, Founding, asking_of, changes_tell_their_requests, founding_of,
+    states_can_be_restored, tables_of,
+};
 use project_steps::{Judged, Kept, is_typed, judge};
 use std::alloc::Global;
 use std::marker::Brand;
+use std::sync::Arc;
 use std::sync::ledger::{Blank, Ledger};
 
 /// The only byte of the entry of a freeing.
@@ -246,20 +254,18 @@ fn founding_in(
     }
 }
 
-/// The founding of these bytes, where they are those of one. The entries of a journal that begins with a whole state
-/// are not read yet: memory is said to run out.
+/// The founding of these bytes, where they are those of one.
 fn founding_by(alloc: Global, bytes: &Bytes) -> Result<Option<Founding>, Memory>
+    requires { slice_get bytes.now 0 ≢ Some 16 }
     ensures { IfOk result (IsFoundingBy bytes.now) }
 {
-    if begins_state(bytes.items()) {
-        return Err(Memory);
-    }
     let read = read_entry(alloc, bytes.items())?;
     founding_in(alloc, &read, bytes)
 }
 
 /// The project behind its first entry, where it is that of a founding.
 fn begun_by(alloc: Global, bytes: &Bytes) -> Result<Option<Book<KeptAlready>>, Memory>
+    requires { slice_get bytes.now 0 ≢ Some 16 }
     ensures { IfOk result (BeginsSo bytes.now) }
 {
     match founding_by(alloc, bytes)? {
@@ -268,33 +274,150 @@ fn begun_by(alloc: Global, bytes: &Bytes) -> Result<Option<Book<KeptAlready>>, M
     }
 }
 
-/// The project behind the first of some entries, or why there is none.
-fn begun(alloc: Global, entries: &[Bytes]) -> Result<Book<KeptAlready>, OpenFault>
-    ensures some { OnOk result (1 ≤ length entries.now) }
-    ensures told { IfOk result (λ book. IsReplay (take 1 entries.now) book.log) }
+/// A project behind its first change, and how many entries that has.
+#[derive(Drop)]
+struct Started {
+    book: Book<KeptAlready>,
+    count: usize,
+}
+
+/// The log of a state that is restored at its place.
+fn log_of_state(alloc: Global, state: BookState) -> Result<Vec<Change>, Memory>
+    ensures { IfOk result (λ log. map happened_of log.items ≡ restored state.state) }
+{
+    let place = state.place();
+    let state = Arc::new(alloc, state)?;
+    let mut log = Vec::new(alloc);
+    log.push(Change::Restored { place, state })?;
+    Ok(log)
+}
+
+/// The log of the state whose pieces these entries are, which are read for it.
+fn log_restored(alloc: Global, run: &[Bytes]) -> Result<Option<Vec<Change>>, Memory>
+    ensures { IfOk result (λ found. IfSome found (λ log. (s : ProjectState) → IsRun run.now s → map happened_of log.items ≡ restored s)) }
+{
+    match restore(alloc, run)? {
+        Some(state) => {
+            let log = log_of_state(alloc, state)?;
+            Ok(Some(log))
+        }
+        None => Ok(None),
+    }
+}
+
+/// A project that begins with a state, of which this is the log.
+fn restored_again<G: Ledger>(
+    alloc: Global,
+    state: BookState,
+    log: Vec<Change>,
+    steps: &mut Steps<G>,
+) -> Result<Book<KeptAlready>, Memory>
+    requires sound { IsSound state.state }
+    requires log { map happened_of log.items ≡ restored state.state }
+    ensures { IfOk result (λ book. book.log ≡ restored state.state) }
+{
+    let groups = Groups::of(alloc, state.conf(), state.level())?;
+    let tables = tables_of(alloc, &state, &groups, steps)?;
+    Ok(Book {
+        alloc,
+        state,
+        groups,
+        tables,
+        log,
+        keeper: KeptAlready,
+    })
+}
+
+/// The project that begins with a state whose pieces these entries are. The history keeps the state as it was, so the
+/// entries are read for it once more.
+#[tactic(auto, using(crate::proofs::RestoredLemmas::replay_restored))]
+fn begun_at<G: Ledger>(
+    alloc: Global,
+    run: &[Bytes],
+    state: BookState,
+    steps: &mut Steps<G>,
+) -> Result<Option<Book<KeptAlready>>, Memory>
+    requires { IsRun run.now state.state }
+    ensures { IfOk result (λ found. IfSome found (λ book. IsReplay run.now book.log)) }
+{
+    match log_restored(alloc, run)? {
+        Some(log) => {
+            let book = restored_again(alloc, state, log, steps)?;
+            Ok(Some(book))
+        }
+        None => Ok(None),
+    }
+}
+
+/// The project that begins with the state whose pieces all these entries are.
+fn begun_of_run<G: Ledger>(
+    alloc: Global,
+    run: &[Bytes],
+    steps: &mut Steps<G>,
+) -> Result<Option<Book<KeptAlready>>, Memory>
+    ensures { IfOk result (λ found. IfSome found (λ book. IsReplay run.now book.log)) }
+{
+    match restore(alloc, run)? {
+        Some(state) => begun_at(alloc, run, state, steps),
+        None => Ok(None),
+    }
+}
+
+/// The project behind the run of pieces with which some entries begin. Where no state is read of it, memory is said to
+/// run out: which piece is at fault is not looked for.
+fn begun_restored<G: Ledger>(
+    alloc: Global,
+    entries: &[Bytes],
+    steps: &mut Steps<G>,
+) -> Result<Started, Memory>
+    ensures within { IfOk result (λ started. started.count ≤ length entries.now) }
+    ensures told { IfOk result (λ started. IsReplay (take started.count entries.now) started.book.log) }
+{
+    let Some(count) = run_length(entries) else {
+        return Err(Memory);
+    };
+    match begun_of_run(alloc, &entries[..count], steps)? {
+        Some(book) => Ok(Started { book, count }),
+        None => Err(Memory),
+    }
+}
+
+/// The project behind its first change, or why there is none.
+fn begun<G: Ledger>(
+    alloc: Global,
+    entries: &[Bytes],
+    steps: &mut Steps<G>,
+) -> Result<Started, OpenFault>
+    ensures within { IfOk result (λ started. started.count ≤ length entries.now) }
+    ensures told { IfOk result (λ started. IsReplay (take started.count entries.now) started.book.log) }
     ensures refused { IfErr result (IsReplayRefusal entries.now) }
 {
     let Some(first) = entries.first() else {
         return Err(OpenFault::BadEntry(1));
     };
+    if begins_state(first.items()) {
+        let started = begun_restored(alloc, entries, steps)?;
+        return Ok(started);
+    }
     match begun_by(alloc, first)? {
-        Some(book) => Ok(book),
+        Some(book) => Ok(Started { book, count: 1 }),
         None => Err(OpenFault::BadEntry(1)),
     }
 }
 
-/// Goes on with the changes of all entries behind the first, or says which entry is at fault.
+/// Goes on with the changes of all entries behind the first so many, or says which entry is at fault.
 fn replay_rest<G: Ledger>(
     book: &mut Book<KeptAlready>,
     entries: &[Bytes],
+    count: usize,
     steps: &mut Steps<G>,
 ) -> Result<(), OpenFault>
-    requires some { 1 ≤ length entries.now }
-    requires begun { IsReplay (take 1 entries.now) book.old.log }
+    requires within { count ≤ length entries.now }
+    requires begun { IsReplay (take count entries.now) book.old.log }
     ensures told { OnOk result (IsReplay entries.now book.new.log) }
     ensures refused { IfErr result (IsReplayRefusal entries.now) }
 {
-    for place in 1..entries.len() {
+    for place in count..entries.len() {
         if !book.take_up(&entries[place], steps)? {
             return Err(OpenFault::BadEntry(place as u64 + 1));
         }
@@ -315,8 +438,9 @@ fn replay_counted<G: Ledger>(
     ensures refused { IfErr result (IsReplayRefusal entries.now) }
 {
     let mut steps = Steps::<G>::new(blank);
-    let mut book = begun(alloc, entries)?;
-    replay_rest(&mut book, entries, &mut steps)?;
+    let started = begun(alloc, entries, &mut steps)?;
+    let Started { mut book, count } = started;
+    replay_rest(&mut book, entries, count, &mut steps)?;
     Ok(book)
 }
 

@@ -5,3 +5,5 @@ pub mod KeptLemmas
 pub mod ActingLemmas
 pub mod RestoringLemmas
 pub mod RosterLemmas
+pub mod EntriesProofs
+pub mod TablesProofs

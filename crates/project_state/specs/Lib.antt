@@ -6,3 +6,5 @@ pub mod Lending
 pub mod Restoring
 pub mod RowActs
 pub mod Codes
+pub mod Entries
+pub mod Tables

@@ -1,6 +1,6 @@
 -- The plain values of what is asked, answered and happens: what the definitions of a project speak of.
 use Rattle.std.specs.Arc.{arc_value}
-use Rattle.project_machine.specs.Requests.{Asked, ReadConf, ListDocs, ReadText, AddText, Checkout, TakeOver, Commit, Park, Finish, ReadLayer, Reopen, Ignore, Readmit, Snap, TakeSnapshot, Decide, Undecide, ReadPairs, ReadAlpha, View, Answered, Conf, Docs, Text, Added, HandedOut, Committed, Parked, Finished, Layer, Ignored, Snapped, Taken, Decided, Pairs, Alpha, Refused, Happened, Founded, TextAdded, CheckedOut, TakenOver, LayerCommitted, LayerParked, LayerFinished, LayerReopened, LayerIgnored, LayerReadmitted, SnapshotTaken, ItemDecided, ItemUndecided, AllFreed}
+use Rattle.project_machine.specs.Requests.{Asked, ReadConf, ListDocs, ReadText, AddText, Checkout, TakeOver, Commit, Park, Finish, ReadLayer, Reopen, Ignore, Readmit, Snap, TakeSnapshot, Decide, Undecide, ReadPairs, ReadAlpha, View, Answered, Conf, Docs, Text, Added, HandedOut, Committed, Parked, Finished, Layer, Ignored, Snapped, Taken, Decided, Pairs, Alpha, Refused, Happened, Founded, TextAdded, CheckedOut, TakenOver, LayerCommitted, LayerParked, LayerFinished, LayerReopened, LayerIgnored, LayerReadmitted, SnapshotTaken, ItemDecided, ItemUndecided, AllFreed, Restored}
 use Rattle.project_machine.specs.Requests as plain
 use Rattle.project_state.specs.declared.request.Request.{Request}
 use Rattle.project_state.specs.declared.request.Request.TheVariants as asks
@@ -64,6 +64,7 @@ answer_of (says.Refused refusal named) = Refused refusal named
 abbrev pub happened_of : Change → Happened
 happened_of (does.Found conf roster) = Founded (arc_value conf) 255 roster
 happened_of (does.FoundAt conf roster level) = Founded (arc_value conf) level roster
+happened_of (does.Restored place state) = Restored place (arc_value state).state
 happened_of (does.AddText by name text) = TextAdded by name (arc_value text)
 happened_of (does.Checkout by doc) = CheckedOut by doc
 happened_of (does.TakeOver by doc) = TakenOver by doc

@@ -1,5 +1,6 @@
 //! What happens to a project.
 use crate::Roster;
+use crate::state::BookState;
 use annotation_conf::Conf;
 use char_documents::Doc;
 use curator_decisions::Verdict;
@@ -23,6 +24,11 @@ pub enum Change {
         conf: Arc<Conf>,
         roster: Roster,
         level: u8,
+    },
+    /// A whole state at its place, with which a history begins in place of a founding.
+    Restored {
+        place: u64,
+        state: Arc<BookState>,
     },
     /// A document is added.
     AddText {

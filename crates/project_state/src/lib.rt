@@ -11,7 +11,8 @@
 //!
 //! What a project is, is defined in `project_machine`, whose items this crate passes on. `specs/Values.antt` leads
 //! from what is asked ([`Request`]), answered ([`Reply`]) and happens ([`Change`]) to the plain values that those
-//! definitions speak of. How a request is judged stands in `project_steps`.
+//! definitions speak of. [`change_bytes`] and [`asking_of`] make entries of changes and requests of entries
+//! (`specs/Entries`), and [`table_act`] says what an act does to the tables of agreement (`specs/Tables`).
 #![tactic(auto)]
 
 pub use project_machine::{
@@ -29,6 +30,7 @@ mod acting;
 mod change;
 mod doc_list;
 mod document;
+mod entries;
 mod finished_layers;
 mod lending;
 mod pair_list;
@@ -40,14 +42,20 @@ mod row;
 mod row_act;
 mod state;
 mod stored_snapshot;
+mod tables;
 
 pub use crate::act::Act;
 pub use crate::change::Change;
 pub use crate::doc_list::DocList;
 pub use crate::document::StoredDocument;
+pub use crate::entries::{
+    Asking, Founding, Written, accepted_changes_can_be_entered, asking_of, change_bytes, entry_for,
+    entry_written, founding_of, names_are_spelt,
+};
 pub use crate::pair_list::PairList;
 pub use crate::reply::{Out, Reply, SnapshotView};
 pub use crate::request::Request;
 pub use crate::row::StoredRow;
 pub use crate::state::BookState;
 pub use crate::stored_snapshot::StoredSnapshot;
+pub use crate::tables::{TableAct, apply, table_act, tables_of};

@@ -1,8 +1,1 @@
-mod ActLemmas
-mod AgreementLemmas
-mod JudgeLemmas
-mod OutcomeLemmas
-mod ShotLemmas
-mod TextLemmas
-pub mod TypedLemmas
-pub mod VerdictActs
+pub mod StepsProofs

@@ -1,31 +1,13 @@
 //! One request to a project: why it is refused, or what it is answered and what it makes happen.
 //!
-//! [`judge`] is one step of a project before it is kept. It tests who asks, then the request, and gives the answer
-//! with the change that is to be kept first, its entry, and the act that does it:
-//!
 //! ```text
-//! let judged = judge(alloc, &state, &tables, &caller, request)?;
+//! let judged = judge(alloc, &state, &tables, &caller, request)?; // the answer, and what is to be kept first
 //! ```
 //!
-//! What it must be is `step` of `project_machine`. A file a part: `policies.rt` who may ask, `refusals.rt` the tests,
-//! `accept.rt` the answers, `outcomes.rt` both together for texts and rows, `snap.rt` and `decide.rt` for snapshots,
-//! `agreement.rt` for the tables, `texts.rt` what a refusal names.
+//! What a step is, is defined in `project_machine` (`Machine.antt`). What a judgement is stands in
+//! `specs/Steps/Judging.antt`, what its parts are in `specs/Steps/Accepting.antt`.
 #![tactic(auto)]
 
-mod accept;
-mod accepted;
-mod agreement;
-mod decide;
-mod judging;
-mod outcomes;
-mod parts;
-mod policies;
-mod refusals;
-mod rows;
-mod shots;
-mod snap;
-mod texts;
-mod typed;
+mod steps;
 
-pub use crate::judging::{Judged, Kept, judge};
-pub use crate::typed::is_typed;
+pub use crate::steps::{Judged, Kept, is_typed, judge, layer_is_typed, scripts_are_typed};

@@ -1,3 +1,2 @@
-mod FileLemmas
-mod WorkerLemmas
-mod EndLemmas
+pub mod DoorsProofs
+pub mod ServingProofs

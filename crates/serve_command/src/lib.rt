@@ -1,19 +1,18 @@
-//! The command `serve`, as a function over what a run reaches: the disks that have the file of the project, and what
-//! hands out a door for a port.
+//! Serving a project to many connections at once.
+//!
+//! [`serve_project`] opens the project of a file and serves what comes in at doors ([`Doors`]) by several workers:
 //!
 //! ```text
-//! let mut disks = FileDisks::new(rt);
-//! let served = serve_project(&rt, alloc, &mut disks, &mut doors, "news.book", 8080);
+//! let end = serve_project(&rt, alloc, &mut disks, &mut doors, "news.book", 8080);
 //! ```
 //!
-//! What becomes of the file, and how a run ends, is defined in `specs/Serving.antt`.
+//! `specs/Doors` has what a worker serves, and `specs/Serving` how the command ends.
 #![tactic(auto)]
 
-mod passes;
-mod pledge;
-mod project;
-mod serve_end;
+mod doors;
 mod serving;
 
-pub use crate::serve_end::ServeEnd;
-pub use crate::serving::serve_project;
+pub use crate::doors::{
+    Door, Doors, MemoryDoor, MemoryDoors, SureDoor, Worker, WorkerEnd, serve_all,
+};
+pub use crate::serving::{ServeEnd, serve_project};

@@ -1,6 +1,6 @@
 use Rattle.std.proofs.Common.{List, ℕ, inl, subst}
 use Rattle.project_machine.specs.Requests.{ReadPairs}
-use Rattle.project_commands.specs.Requests.{RefusesTo}
+use Rattle.annotation_cli.specs.Commands.Requests.{RefusesTo}
 use Rattle.annotation_cli.proofs.agreeing.agreement_here.Goals as goal
 
 pub returns-in-Err-clause-refused : goal.returns-in-Err-clause-refused

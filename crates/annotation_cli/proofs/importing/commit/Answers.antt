@@ -1,7 +1,7 @@
 use Rattle.std.proofs.Common.{subst}
 use Rattle.layer_model.specs.Annotations.{Annotations}
 use Rattle.project_machine.specs.Requests.{Commit}
-use Rattle.project_commands.specs.Requests.{RefusesTo}
+use Rattle.annotation_cli.specs.Commands.Requests.{RefusesTo}
 use Rattle.annotation_cli.proofs.importing.commit.Goals as goal
 
 pub returns-in-Err-clause-refused : goal.returns-in-Err-clause-refused

@@ -1,5 +1,5 @@
 use Rattle.std.proofs.Common.{inl, inr}
-use Rattle.book_exchange.specs.Connections.{holding_of}
+use Rattle.annotation_http.specs.Exchanges.Connections.{holding_of}
 use Rattle.annotation_cli.proofs.importing.import_layer.Goals as goal
 
 pub returns-in-Err-clause-refused : goal.returns-in-Err-clause-refused

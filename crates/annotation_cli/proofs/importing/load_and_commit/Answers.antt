@@ -1,5 +1,5 @@
 use Rattle.std.proofs.Common.{inl}
-use Rattle.book_exchange.specs.Connections.{holding_of}
+use Rattle.annotation_http.specs.Exchanges.Connections.{holding_of}
 use Rattle.annotation_cli.proofs.ImportLemmas.{commits, commit_refused}
 use Rattle.annotation_cli.proofs.importing.load_and_commit.Goals as goal
 

@@ -1,6 +1,8 @@
-use Rattle.std.proofs.Common.{Err, inr, refl}
+use Rattle.std.proofs.Common.{map, string_bytes, Err, inr, refl, subst, sym}
 use Rattle.program_inputs.specs.declared.trouble.Trouble.TheVariants.{Memory}
 use Rattle.program_inputs.proofs.Troubles.{not_err}
+use Rattle.annotation_cli.specs.Asked.{NamesTwo}
+use Rattle.annotation_cli.proofs.TwoLemmas.{names_two}
 use Rattle.annotation_cli.proofs.run.run.Goals as goal
 
 pub returns-in-Err-clause-told : goal.returns-in-Err-clause-told
@@ -10,3 +12,6 @@ pub returns-clause-done : goal.returns-clause-done
 returns-clause-done g c = λ is.
     let done = c.end_run-2.ensures.done is in
     (c.perform_counted-done.ensures.folder.still (not_err done.0), c.perform_counted-done.ensures.read.still (not_err done.0), c.perform_counted-done.ensures.write.still (not_err done.0), done.1)
+
+pub perform_counted-done-requires-clause-apart : goal.perform_counted-done-requires-clause-apart
+perform_counted-done-requires-clause-apart g c κs within = subst NamesTwo (sym c.in-Ok.ensures) (names_two (map string_bytes c.args.words.now))

@@ -1,5 +1,5 @@
 use Rattle.std.proofs.Common.{inr}
-use Rattle.book_exchange.specs.Connections.{Bare}
+use Rattle.annotation_http.specs.Exchanges.Connections.{Bare}
 use Rattle.annotation_cli.proofs.WeakLemmas.{serves}
 use Rattle.annotation_cli.proofs.sessions.serve_session.Goals as goal
 

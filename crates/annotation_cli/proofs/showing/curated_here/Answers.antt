@@ -1,6 +1,6 @@
 use Rattle.std.proofs.Common.{List, ℕ, subst}
 use Rattle.project_machine.specs.Requests.{TakeSnapshot}
-use Rattle.project_commands.specs.Requests.{RefusesTo}
+use Rattle.annotation_cli.specs.Commands.Requests.{RefusesTo}
 use Rattle.annotation_cli.proofs.showing.curated_here.Goals as goal
 
 pub returns-clause-refused : goal.returns-clause-refused

@@ -2,7 +2,7 @@ use Rattle.std.proofs.Common.{List, ℕ, subst}
 use Rattle.std.specs.Arc.{arc_value}
 use Rattle.project_machine.specs.Requests as answers
 use Rattle.project_machine.specs.Requests.{ReadLayer}
-use Rattle.project_commands.specs.Requests.{Grants, RefusesTo}
+use Rattle.annotation_cli.specs.Commands.Requests.{Grants, RefusesTo}
 use Rattle.annotation_cli.proofs.showing.layer_here.Goals as goal
 
 pub returns-in-Err-clause-refused : goal.returns-in-Err-clause-refused

@@ -1,5 +1,5 @@
 use Rattle.std.proofs.Common.{sym, subst}
-use Rattle.project_entries.specs.Writing.{CanBeEntered}
+use Rattle.project_state.specs.Entries.Writing.{CanBeEntered}
 use Rattle.project_book.proofs.founding.founding_entry.Goals as goal
 
 pub change_bytes-requires : goal.change_bytes-requires

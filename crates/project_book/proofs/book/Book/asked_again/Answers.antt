@@ -1,4 +1,4 @@
-use Rattle.project_entries.specs.Asking.{plain_asking}
+use Rattle.project_state.specs.Entries.Asking.{plain_asking}
 use Rattle.project_book.proofs.ReplayLemmas.{made_next}
 use Rattle.project_book.proofs.book.Book.asked_again.Goals as goal
 

@@ -1,7 +1,7 @@
 use Rattle.std.proofs.Common.{◌≡◌, ◌∙◌, ap, subst}
 use Rattle.project_machine.specs.History.{after}
 use Rattle.project_machine.specs.ProjectState.{ProjectState}
-use Rattle.project_entries.specs.Asking.{TellsRequest}
+use Rattle.project_state.specs.Entries.Asking.{TellsRequest}
 use Rattle.project_book.specs.Keeping.{BookValue}
 use Rattle.project_book.specs.Replaying.{IsReading}
 use Rattle.project_book.proofs.ReplayLemmas.{asking_read, none_without_entry}

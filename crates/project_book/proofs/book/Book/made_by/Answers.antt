@@ -1,5 +1,5 @@
 use Rattle.project_state.specs.Values.{asked_of}
-use Rattle.project_entries.specs.Asking.{plain_asking}
+use Rattle.project_state.specs.Entries.Asking.{plain_asking}
 use Rattle.project_book.proofs.AskLemmas.{judged_at, made_judged}
 use Rattle.project_book.proofs.book.Book.made_by.Goals as goal
 

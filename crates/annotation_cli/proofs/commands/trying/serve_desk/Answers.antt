@@ -1,0 +1,25 @@
+use Rattle.std.proofs.Common.{subst}
+use Rattle.mark_base.specs.FailList.{IsFaultless}
+use Rattle.project_book.specs.Keeping.{BookValue}
+use Rattle.project_book.specs.Visits.{visiting_alone}
+use Rattle.project_machine.specs.History.{last}
+use Rattle.annotation_http.specs.Exchanges.Connections.{Holds, holding_of}
+use Rattle.project_journal.specs.declared.memory_keeper.MemoryKeeper.{MemoryKeeper}
+use Rattle.project_journal.specs.MemoryKeepers.{fails_of_appends}
+use Rattle.annotation_cli.specs.Commands.Serving.{Serves}
+use Rattle.annotation_cli.proofs.commands.trying.serve_desk.Goals as goal
+
+pub returns-clause-told : goal.returns-clause-told
+returns-clause-told g c =
+    let left = g.C.Source.left in
+    let held = g.C.Sink.held in
+    let now = c.serve.new.visitor in
+    let new = visiting_alone now.book.log now.began (fails_of_appends now.book.keeper).faults now.room in
+    let seen = subst (λ v. Serves (IsFaultless (fails_of_appends c.new-visitor.result.book.keeper)) (Holds (holding_of c.args.tried.held)) v new
+    (left c.args.console.now) (left c.serve.new.console) (held c.args.console.now) (held c.serve.new.console) c.serve.result) c.new-visitor.ensures.visiting c.serve.ensures.told in
+    record {
+      new = new;
+      served = subst (λ (b : BookValue MemoryKeeper). Serves (IsFaultless (fails_of_appends b.keeper)) (Holds (holding_of c.args.tried.held))
+          (visiting_alone c.args.tried.book.log (last c.args.tried.book.log) (fails_of_appends c.args.tried.book.keeper).faults 18446744073709551615) new
+          (left c.args.console.now) (left c.serve.new.console) (held c.args.console.now) (held c.serve.new.console) c.serve.result) c.new-visitor.ensures.book seen;
+    }

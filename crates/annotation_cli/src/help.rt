@@ -1,0 +1,50 @@
+//! What `--help` prints.
+ghost use Rattle.std.specs.Prelude.{◌≡◌, ◌≢◌, IfErr};
+
+use mark_base::Bytes;
+use program_inputs::Trouble;
+use std::alloc::Global;
+
+/// Every command in a line with an example, what each status means, and where the documents are.
+const HELP: &str = "annotate WORDS: text annotation by several people, and its curation.
+BOOK is the file of a project. Each other file is only read.
+
+  try CONF TEXT                  serves a project in memory on the console, from a desk on its one text
+      annotate try news.conf news.txt <requests
+  found BOOK CONF ROSTER         makes the file of a project
+      annotate found news.book news.conf people.csv
+  found-at BOOK CONF ROSTER LEVEL  the same, with agreement at a level of the tree of types, 0 to 254
+      annotate found-at news.book news.conf people.csv 0
+  add BOOK CALLER NAME TEXT      adds a document
+      annotate add news.book cur rome rome.txt
+  serve BOOK PORT                serves the project on 127.0.0.1, to eight connections at a time
+      annotate serve news.book 8080
+  session BOOK                   serves the project on the console
+      annotate session news.book <requests
+  import BOOK WHO NAME ANN       makes an .ann file the committed layer of an annotator
+      annotate import news.book ann rome rome.ann
+  export BOOK WHO NAME           prints a committed layer as .ann lines
+      annotate export news.book ann rome
+  agree BOOK                     prints the tables of agreement
+      annotate agree news.book
+  curated BOOK NUMBER            prints the curated layer of a snapshot as .ann lines
+      annotate curated news.book 1
+  compact OLD NEW                makes a file that begins with the state of the project
+      annotate compact news.book news.new
+  verify CONF TEXT ANN           judges an .ann file, and counts what it has
+      annotate verify news.conf rome.txt rome.ann
+  columns-in CONF TEXT COLUMNS   prints the layer of a column file as .ann lines
+      annotate columns-in news.conf rome.txt rome.tsv
+
+Status 0: done. 1: a fault of an .ann file, or of the configuration beside it. 2: no command.
+3: a file at fault, or the project refuses. 4, 5, 6: a device failed. 7: no memory.
+docs/getting-started.md is a first project; docs/operating.md says what each line of complaint means.
+";
+
+/// The text of the help.
+pub fn help_text(alloc: Global) -> Result<Bytes, Trouble>
+    ensures { IfErr result (λ trouble. trouble ≡ Trouble.Memory) }
+{
+    let text = Bytes::of(alloc, HELP.as_bytes())?;
+    Ok(text)
+}

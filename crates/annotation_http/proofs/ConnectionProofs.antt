@@ -1,0 +1,5 @@
+pub mod FaultLemmas
+pub mod HistoryLemmas
+pub mod ParkLemmas
+pub mod SessionLemmas
+pub mod TalkLemmas

@@ -1,0 +1,3 @@
+pub mod AnswerLawsProofs
+pub mod ExchangesProofs
+pub mod ConnectionProofs

@@ -1,3 +1,0 @@
-mod FigureLemmas
-mod FitLemmas
-mod ShownLemmas

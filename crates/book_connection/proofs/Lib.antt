@@ -1,5 +1,0 @@
-mod FaultLemmas
-mod HistoryLemmas
-mod ParkLemmas
-mod SessionLemmas
-mod TalkLemmas

@@ -1,5 +1,0 @@
-use Rattle.book_connection.proofs.HistoryLemmas.{tells_one_history}
-use Rattle.book_connection.proofs.laws.messages_tell_one_history.Goals as goal
-
-pub returns : goal.returns
-returns c = λ old new more messages answers legal run. tells_one_history old new more messages answers legal run

@@ -1,5 +1,0 @@
-use Rattle.book_connection.proofs.SessionLemmas.{connection_told}
-use Rattle.book_connection.proofs.session.serve_link.Goals as goal
-
-pub returns-clause-session : goal.returns-clause-session
-returns-clause-session g c = connection_told _ _ _ _ _ _ _ _ _ _ _ c.serve_messages-ending.ensures.stays c.serve_messages-ending.ensures.session c.park_last.ensures.parked

@@ -1,6 +1,0 @@
-mod CarriedLemmas
-mod HoldLemmas
-mod OpenLemmas
-mod OpenedLemmas
-mod PlanLemmas
-mod VisitedLemmas

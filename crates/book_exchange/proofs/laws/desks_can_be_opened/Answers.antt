@@ -1,6 +1,0 @@
-use Rattle.project_machine.specs.History.{after}
-use Rattle.book_exchange.proofs.OpenedLemmas.{step_opened}
-use Rattle.book_exchange.proofs.laws.desks_can_be_opened.Goals as goal
-
-pub returns : goal.returns
-returns c = λ log caller asked legal. step_opened (after log) caller asked c.unflawed_layers.ensures.unflawed (c.states_can_be_restored.ensures.kept log legal)

@@ -1,5 +1,0 @@
-use Rattle.book_exchange.proofs.HoldLemmas.{stays_open}
-use Rattle.book_exchange.proofs.laws.held_desks_stay_open.Goals as goal
-
-pub returns : goal.returns
-returns c = λ seen more mine held legal all within open_on. stays_open seen more mine held legal all within open_on

@@ -1,8 +1,0 @@
-use Rattle.std.proofs.Common.{◌≡◌, ◌∙◌, ap}
-use Rattle.project_machine.specs.Asking.{Visiting}
-use Rattle.hall_cases.proofs.guests.serve_by.Goals as goal
-
-pub returns : goal.returns
-returns g c =
-    let badge = λ (v : Visiting). v.badge in
-    (c.badges_tell_passes.ensures c.args.pass c.into_pass.result (ap badge c.into_pass.ensures.visiting ∙ (c.serve_link-ending.ensures.badge ∙ ap badge c.new-guest.ensures.visiting))).hall ∙ c.requires

@@ -1,0 +1,4 @@
+pub mod RoutesProofs
+pub mod RequestsProofs
+pub mod AnswerBodiesProofs
+pub mod DeskProofs

@@ -1,0 +1,5 @@
+pub mod Routes
+pub mod Requests
+pub mod AnswerBodies
+pub mod Answers
+pub mod Desk

@@ -1,0 +1,3 @@
+pub mod LayerLemmas
+pub mod OrderLemmas
+pub mod KeptLemmas

@@ -1,0 +1,27 @@
+//! A project's state, read from the run of pieces with which a journal begins in place of a history.
+//!
+//! [`restore`] reads the run back:
+//!
+//! ```text
+//! if let Some(count) = run_length(entries) {
+//!     let state = restore(alloc, &entries[..count])?; // the state, where these are its pieces
+//! }
+//! ```
+//!
+//! What the pieces of a state are is defined in `project_machine` (`Entries.antt`), and which states can be restored
+//! in `Legal.antt`. The files read the pieces (`pieces.rt`, `layer_pieces.rt`, `rows.rt`, `shots.rt`, `whole.rt`), test
+//! what was read (`layers_kept.rt`, `rows_kept.rt`, `snapshots_kept.rt`, `sound.rt`), and compare (`restoring.rt`).
+mod ascending;
+mod layer_pieces;
+mod layers_kept;
+mod pieces;
+mod restoring;
+mod rows;
+mod rows_kept;
+mod shots;
+mod snapshots_kept;
+mod sound;
+mod whole;
+
+pub use crate::restoring::restoring::{restore, run_length};
+pub use crate::restoring::sound::is_sound;

@@ -1,0 +1,67 @@
+//! Two guests of one hall.
+ghost use Rattle.std.specs.Prelude.{◌≡◌, IfOk};
+
+use crate::hall::projects::{conf, put_message, roster};
+use annotation_http::{Start, serve_link};
+use anyhow::{Error, Result};
+use mark_base::{Bytes, MemoryLink, Steps};
+use project_book::{Book, Visitor};
+use project_journal::{Keeper, MemoryKeeper};
+use std::alloc::Global;
+use std::sync::Wait;
+use std::sync::ledger::Ledger;
+use turn_hall::{Guest, Hall, Pass, badges_tell_passes};
+
+/// A project over a keeper in memory.
+fn found(alloc: Global) -> Result<Book<MemoryKeeper>> {
+    let keeper = MemoryKeeper::new(alloc, Vec::new(alloc), Vec::new(alloc));
+    match Book::found(alloc, keeper, conf(alloc)?, roster(alloc)?) {
+        Ok(book) => Ok(book),
+        Err(_) => Err(Error::msg("the project is not founded")),
+    }
+}
+
+/// Serves a message by a guest with a pass, and gives the pass back with the answer.
+fn serve_by<K: Keeper, R: Wait, G: Ledger>(
+    rt: &R,
+    alloc: Global,
+    hall: &Hall<K>,
+    pass: Pass,
+    message: Bytes,
+    steps: &mut Steps<G>,
+) -> Result<(Pass, String)>
+    requires { pass.hall ≡ hall.now.id }
+    ensures { IfOk result (λ served. served.0.hall ≡ hall.now.id) }
+{
+    pass.keeps();
+    badges_tell_passes();
+    let mut guest = Guest::new(rt, hall, pass);
+    if guest.room() < 1_000_002 {
+        return Err(Error::msg("the guest has no room"));
+    }
+    let mut link = MemoryLink::new(alloc, message, Vec::new(alloc), Vec::new(alloc));
+    let ending = serve_link(alloc, &mut guest, Start::Bare, &mut link, steps);
+    let answer = String::from_utf8_lossy(alloc, link.written())?;
+    let text = format!(in alloc; "{answer}\n{ending:?}")?;
+    Ok((guest.into_pass(), text))
+}
+
+/// The first guest puts a document, and a note of its pass tells the second, which lists the documents.
+pub(crate) fn tell_by_note<R: Wait, G: Ledger>(
+    rt: &R,
+    alloc: Global,
+    steps: &mut Steps<G>,
+) -> Result<(String, String)> {
+    let Ok((hall, mut first)) = Hall::open(alloc, found(alloc)?) else {
+        return Err(Error::msg("the hall is not opened"));
+    };
+    let mut second = first.split(&hall);
+    let message = put_message(alloc, "news")?;
+    let (mut first, put) = serve_by(rt, alloc, &hall, first, message, steps)?;
+    second.learn(&hall, first.note(&hall));
+    let Ok(message) = Bytes::of(alloc, b"GET /docs HTTP/1.1\r\nCaller: ann\r\n\r\n") else {
+        return Err(Error::msg("memory"));
+    };
+    let (_, list) = serve_by(rt, alloc, &hall, second, message, steps)?;
+    Ok((put, list))
+}

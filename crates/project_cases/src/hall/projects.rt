@@ -1,0 +1,80 @@
+//! The project of the cases: one type, an annotator and a curator.
+ghost use Rattle.std.specs.Prelude.{◌≡◌, IfOk};
+ghost use Rattle.named_disks.specs.NamedDisks.{IsIn};
+
+use annotation_conf::{Conf, read_conf};
+use anyhow::{Error, Result};
+use entry_bytes::Person;
+use mark_base::{Bytes, Slug};
+use named_disks::{Disks, MemoryDisks};
+use program_inputs::{found_project, give_project_back, open_project};
+use project_book::Roster;
+use std::alloc::Global;
+
+/// The name of the project's file.
+pub(crate) const FILE: &str = "cases.book";
+
+/// A configuration of one type.
+pub(crate) fn conf(alloc: Global) -> Result<Conf> {
+    match read_conf(alloc, b"[entities]\nPerson\n") {
+        Ok(conf) => Ok(conf),
+        Err(_) => Err(Error::msg("the configuration is not read")),
+    }
+}
+
+/// The people.
+pub(crate) fn roster(alloc: Global) -> Result<Roster> {
+    let mut people = Vec::new(alloc);
+    for (name, curator) in [("ann", false), ("cur", true)] {
+        let Ok(name) = Slug::new(alloc, name) else {
+            return Err(Error::msg("a name is not read"));
+        };
+        people.push(Person { name, curator })?;
+    }
+    if people.len() > 65_536 {
+        return Err(Error::msg("there are too many people"));
+    }
+    match Roster::of(alloc, people) {
+        Ok(roster) => Ok(roster),
+        Err(_) => Err(Error::msg("the people are no roster")),
+    }
+}
+
+/// Disks in memory, in which the project was founded.
+pub(crate) fn founded(alloc: Global) -> Result<MemoryDisks>
+    ensures { IfOk result (λ disks. IsIn (⟦<MemoryDisks as Disks>⟧.out disks) FILE.now) }
+{
+    let mut disks = MemoryDisks::new(alloc, Vec::new(alloc), Vec::new(alloc));
+    match found_project(alloc, &mut disks, FILE, conf(alloc)?, roster(alloc)?, 255) {
+        Ok(book) => {
+            give_project_back(&mut disks, FILE, book);
+            Ok(disks)
+        }
+        Err(_) => Err(Error::msg("the project is not founded")),
+    }
+}
+
+/// The place of the last change of the project.
+pub(crate) fn place_in(alloc: Global, disks: &mut MemoryDisks) -> Result<u64>
+    requires { IsIn (⟦<MemoryDisks as Disks>⟧.out disks.old) FILE.now }
+{
+    match open_project(alloc, disks, FILE) {
+        Ok(book) => {
+            let place = book.place();
+            give_project_back(disks, FILE, book);
+            Ok(place)
+        }
+        Err(_) => Err(Error::msg("the project is not opened again")),
+    }
+}
+
+/// A message that puts a document of a name.
+pub(crate) fn put_message(alloc: Global, name: &str) -> Result<Bytes> {
+    let text = format!(in alloc;
+        "PUT /docs/{name}/text HTTP/1.1\r\nCaller: cur\r\nContent-Length: 5\r\n\r\na b c"
+    )?;
+    match Bytes::of(alloc, text.as_bytes()) {
+        Ok(bytes) => Ok(bytes),
+        Err(_) => Err(Error::msg("memory")),
+    }
+}

@@ -1,3 +1,0 @@
-mod ReplyLemmas
-mod EndingLemmas
-mod TriedLemmas

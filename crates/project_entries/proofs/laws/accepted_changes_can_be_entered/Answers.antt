@@ -1,5 +1,0 @@
-use Rattle.project_entries.proofs.WritableLemmas.{can_be_entered}
-use Rattle.project_entries.proofs.laws.accepted_changes_can_be_entered.Goals as goal
-
-pub returns : goal.returns
-returns c = can_be_entered c.unflawed_layers.ensures.unflawed c.accepted_scripts_can_be_written.ensures

@@ -1,0 +1,4 @@
+pub mod ActTables
+pub mod SpareLemmas
+pub mod TablingLemmas
+pub mod CountingLemmas

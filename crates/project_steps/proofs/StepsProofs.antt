@@ -1,0 +1,8 @@
+pub mod ActLemmas
+pub mod AgreementLemmas
+pub mod JudgeLemmas
+pub mod OutcomeLemmas
+pub mod ShotLemmas
+pub mod TextLemmas
+pub mod TypedLemmas
+pub mod VerdictActs

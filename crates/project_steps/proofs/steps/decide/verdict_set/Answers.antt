@@ -1,0 +1,5 @@
+use Rattle.project_steps.proofs.StepsProofs.ShotLemmas.{shots_cohere}
+use Rattle.project_steps.proofs.steps.decide.verdict_set.Goals as goal
+
+pub decide-requires : goal.decide-requires
+decide-requires c = shots_cohere c.args.state.now.state c.args.taken.now c.layers.result.now c.well_formed_layers_cohere.ensures c.requires c.layers.ensures

@@ -1,3 +1,0 @@
-mod ActTables
-mod SpareLemmas
-mod TablingLemmas
