@@ -4,16 +4,19 @@ ghost use Rattle.mark_base.specs.Streams.{TellsFault};
 ghost use Rattle.project_machine.specs.Legal.{IsLegal};
 ghost use Rattle.annotation_http.specs.Exchanges.Connections.{connection_of};
 ghost use Rattle.annotation_http.specs.Connection.Steps.{serving};
+ghost use Rattle.annotation_http.specs.Connection.Headline.{Headline};
 ghost use Rattle.annotation_http.specs.Connection.Session.{ConnectionTold, SessionTold};
 
 use crate::connection::answering::{MOST_ANSWERS, answer_message, end_stopped, end_unable};
 use crate::connection::ending::Ending;
+use crate::connection::laws::connections_tell_one_history;
 use crate::connection::parking::park_last;
 use crate::exchanges::Start;
 use http_answers::Routes;
 use http_wire::Inbox;
 use mark_base::{Link, Memory, Steps};
 use project_book::Visitor;
+use project_machine::committed_layers_obey;
 use std::alloc::Global;
 use std::sync::ledger::Ledger;
 
@@ -82,6 +85,7 @@ pub fn serve_link<V: Visitor, L: Link, G: Ledger>(
 ) -> Ending
     requires room { 1000002 ≤ (V.visiting visitor.old).room }
     requires legal { IsLegal (V.visiting visitor.old).seen }
+    ensures headline { Headline (V.faultless visitor.old) (connection_of start) (V.visiting visitor.old) (V.visiting visitor.new) (L.left link.old) (L.left link.new) (L.held link.old) (L.held link.new) result }
     ensures session { ConnectionTold (V.faultless visitor.old) (connection_of start) (V.visiting visitor.old) (V.visiting visitor.new) (L.left link.old) (L.left link.new) (L.held link.old) (L.held link.new) result }
     ensures legal { IsLegal (V.visiting visitor.new).seen }
     ensures room { (V.visiting visitor.old).room ≤ (V.visiting visitor.new).room + 1000001 }
@@ -90,6 +94,8 @@ pub fn serve_link<V: Visitor, L: Link, G: Ledger>(
     ensures read { TellsFault (result ≡ Ending.ReadFault) (L.read_faults link.old) (L.read_faults link.new) }
     ensures write { TellsFault (result ≡ Ending.WriteFault) (L.write_faults link.old) (L.write_faults link.new) }
 {
+    connections_tell_one_history(visitor);
+    committed_layers_obey();
     let mut connection = start;
     let ending = serve_messages(alloc, visitor, &mut connection, link, steps);
     park_last(visitor, &connection, steps);
