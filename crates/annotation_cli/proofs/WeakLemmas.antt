@@ -112,5 +112,6 @@ serves A B f start old new left now before written done s = record {
     parked = last_park A B f s.told.behind.connection s.told.behind.visiting new s.told.parked;
     still = λ b. s.told.still (f b);
   };
+  layers_obey = s.layers_obey;
   came = s.came;
 }

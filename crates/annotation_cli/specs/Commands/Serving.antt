@@ -1,6 +1,8 @@
 -- A console that is served with a project.
-use Rattle.std.specs.Prelude.{◌≡◌, ℕ, List, Option, Result, Ok, Err}
+use Rattle.std.specs.Prelude.{◌≡◌, ℕ, ◌<◌, List, Option, Result, Ok, Err}
 use Rattle.project_machine.specs.Asking.{Visiting}
+use Rattle.project_machine.specs.History.{after, begin, upto}
+use Rattle.project_machine.specs.Legal.{LayersObey}
 use Rattle.annotation_http.specs.Exchanges.Connections.{Connection}
 use Rattle.annotation_http.specs.Connection.Session.{ConnectionTold}
 use Rattle.annotation_http.specs.declared.connection.ending.Ending.{Ending}
@@ -22,8 +24,9 @@ ending_of ending.ReadFault = Err trouble.ReadFault
 ending_of ending.WriteFault = Err trouble.WriteFault
 ending_of ending.Memory = Err trouble.Memory
 
--- one connection was served, from its start to an ending that comes to this
+-- one connection was served, from its start to an ending that comes to this; at each place of what was seen each committed layer obeys the configuration
 pub record Serves (faultless : Type 0) (start : Connection) (old new : Visiting) (left now before written : Option (List ℕ)) (done : Result (Unit {0}) Trouble) : Type 0 where
   pub end : Ending
   pub told : ConnectionTold faultless start old new left now before written end
+  pub layers_obey : (place : ℕ) → begin new.seen < place → LayersObey (after (upto place new.seen))
   pub came : done ≡ ending_of end
