@@ -20,7 +20,9 @@
 //! A request takes one turn. Its thread draws a ticket from word 1, looks at the turn in word 0 until that is its ticket,
 //! takes the book out of slot 0, asks it, and gives it back as the turn goes on. What holds between any two of these
 //! steps, in whatever order threads make them, is the rule of the hall (`specs/Rule.antt`); what each step makes of what
-//! a pass knows stands in `specs/Steps.antt`, and what the public calls tell of it in `specs/Passes.antt`.
+//! a pass knows stands in `specs/Steps.antt`, and what the public calls tell of it in `specs/Passes.antt`. A thread that
+//! waits looks at the turn a few times before it sleeps, and calls of the system are made only where a thread sleeps or
+//! may.
 #![tactic(auto)]
 
 mod guest;

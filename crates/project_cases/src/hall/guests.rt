@@ -1,11 +1,11 @@
 //! Two guests of one hall.
 ghost use Rattle.std.specs.Prelude.{◌≡◌, IfOk};
 
-use crate::hall::projects::{conf, put_message, roster};
-use annotation_http::{Start, serve_link};
+use crate::hall::answers::answers_to;
+use crate::hall::projects::{conf, list_messages, put_message, roster};
 use anyhow::{Error, Result};
-use mark_base::{Bytes, MemoryLink, Steps};
-use project_book::{Book, Visitor};
+use mark_base::{Bytes, Steps};
+use project_book::Book;
 use project_journal::{Keeper, MemoryKeeper};
 use std::alloc::Global;
 use std::sync::Wait;
@@ -13,7 +13,7 @@ use std::sync::ledger::Ledger;
 use turn_hall::{Guest, Hall, Pass, badges_tell_passes};
 
 /// A project over a keeper in memory.
-fn found(alloc: Global) -> Result<Book<MemoryKeeper>> {
+pub(crate) fn found(alloc: Global) -> Result<Book<MemoryKeeper>> {
     let keeper = MemoryKeeper::new(alloc, Vec::new(alloc), Vec::new(alloc));
     match Book::found(alloc, keeper, conf(alloc)?, roster(alloc)?) {
         Ok(book) => Ok(book),
@@ -36,13 +36,7 @@ fn serve_by<K: Keeper, R: Wait, G: Ledger>(
     pass.keeps();
     badges_tell_passes();
     let mut guest = Guest::new(rt, hall, pass);
-    if guest.room() < 1_000_002 {
-        return Err(Error::msg("the guest has no room"));
-    }
-    let mut link = MemoryLink::new(alloc, message, Vec::new(alloc), Vec::new(alloc));
-    let ending = serve_link(alloc, &mut guest, Start::Bare, &mut link, steps);
-    let answer = String::from_utf8_lossy(alloc, link.written())?;
-    let text = format!(in alloc; "{answer}\n{ending:?}")?;
+    let text = answers_to(alloc, &mut guest, message, steps)?;
     Ok((guest.into_pass(), text))
 }
 
@@ -59,9 +53,6 @@ pub(crate) fn tell_by_note<R: Wait, G: Ledger>(
     let message = put_message(alloc, "news")?;
     let (mut first, put) = serve_by(rt, alloc, &hall, first, message, steps)?;
     second.learn(&hall, first.note(&hall));
-    let Ok(message) = Bytes::of(alloc, b"GET /docs HTTP/1.1\r\nCaller: ann\r\n\r\n") else {
-        return Err(Error::msg("memory"));
-    };
-    let (_, list) = serve_by(rt, alloc, &hall, second, message, steps)?;
+    let (_, list) = serve_by(rt, alloc, &hall, second, list_messages(alloc, 1)?, steps)?;
     Ok((put, list))
 }

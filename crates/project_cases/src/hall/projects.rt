@@ -40,11 +40,11 @@ pub(crate) fn roster(alloc: Global) -> Result<Roster> {
     }
 }
 
-/// Disks in memory, in which the project was founded.
-pub(crate) fn founded(alloc: Global) -> Result<MemoryDisks>
+/// Disks in memory, in which the project was founded by the first call; those of these numbers fail.
+pub(crate) fn founded(alloc: Global, fails: Vec<u64>) -> Result<MemoryDisks>
     ensures { IfOk result (λ disks. IsIn (⟦<MemoryDisks as Disks>⟧.out disks) FILE.now) }
 {
-    let mut disks = MemoryDisks::new(alloc, Vec::new(alloc), Vec::new(alloc));
+    let mut disks = MemoryDisks::new(alloc, Vec::new(alloc), fails);
     match found_project(alloc, &mut disks, FILE, conf(alloc)?, roster(alloc)?, 255) {
         Ok(book) => {
             give_project_back(&mut disks, FILE, book);
@@ -77,4 +77,13 @@ pub(crate) fn put_message(alloc: Global, name: &str) -> Result<Bytes> {
         Ok(bytes) => Ok(bytes),
         Err(_) => Err(Error::msg("memory")),
     }
+}
+
+/// Messages of the curator that list the documents so often.
+pub(crate) fn list_messages(alloc: Global, times: usize) -> Result<Bytes> {
+    let mut text = String::new(alloc);
+    for _ in 0..times {
+        text.push_str("GET /docs HTTP/1.1\r\nCaller: cur\r\n\r\n")?;
+    }
+    Ok(Bytes::from_vec(text.into_bytes()))
 }

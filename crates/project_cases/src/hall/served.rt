@@ -35,7 +35,7 @@ fn serve_links<R: Threads + Wait + Sync>(
     watch: &Watch,
     links: Vec<CaseLink>,
 ) -> Result<String> {
-    let mut disks = founded(alloc)?;
+    let mut disks = founded(alloc, Vec::new(alloc))?;
     let mut rows = Vec::new(alloc);
     rows.push(CaseDoor::new(links))?;
     let mut doors = MemoryDoors::new(rows, Vec::new(alloc));

@@ -108,8 +108,9 @@ fn serve_disk<R: Threads + Wait + Sync, E: Disk + Send + Drop, O: Doors, P: Pled
 /// the door of a port, as up to eight at a time, until the door ends or fails, or no worker has room for one more. Then,
 /// or where the door was refused or memory ran out, the disk of the project is given back to its name.
 ///
-/// A fault of a connection ends that one alone. A fault of the door ends the run once the connections that were begun
-/// are ended. Cost, read off the code and not measured: that of opening the file, and of each connection.
+/// A fault of a connection ends that one alone. A fault of the door stops the worker that met it; the others go on, and
+/// the run ends once all have stopped. Cost, read off the code and not measured: that of opening the file, and of each
+/// connection.
 pub fn serve_project<R: Threads + Wait + Sync, D: Disks, O: Doors>(
     rt: &R,
     alloc: Global,
