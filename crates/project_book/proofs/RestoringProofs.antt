@@ -5,3 +5,4 @@ pub mod NamedLemmas
 pub mod FollowingLemmas
 pub mod FitLemmas
 pub mod FaultLemmas
+pub mod LinesLemmas

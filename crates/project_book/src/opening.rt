@@ -80,8 +80,8 @@ impl<K: Keeper> Book<K> {
     ///
     /// Entries that begin with a run of pieces are opened as the state whose pieces they are. Where no state that can be
     /// restored is read of them, the piece at which that shows is named, or the number past the last entry where the run
-    /// lacks its end. `Memory` is answered too where the fault lies within lines, commands or verdicts, or a name stands
-    /// twice, or rows are out of their order: such a piece is not looked for.
+    /// lacks its end. `Memory` is answered too where the fault lies within commands or verdicts, or a name stands twice, or
+    /// rows are out of their order: such a piece is not looked for.
     pub fn open(alloc: Global, keeper: K, entries: &[Bytes]) -> Result<Book<K>, (K, OpenFault)>
         requires kept { IfSome (K.kept keeper) (λ told. told ≡ entries.now) }
         requires certain { K.doubt keeper ≡ None }

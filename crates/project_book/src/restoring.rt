@@ -20,6 +20,7 @@ mod pieces;
 mod restoring;
 mod rows;
 mod rows_kept;
+mod said_lines;
 mod shots;
 mod snapshots_kept;
 mod so_far;

@@ -21,7 +21,7 @@ use Rattle.project_book.specs.declared.restoring.so_far.Before.TheVariants as be
 use Rattle.project_book.specs.declared.restoring.so_far.SoFar.{SoFar}
 use Rattle.project_book.specs.Opening.{IsRunFault, StartsRun, is_no_piece, is_without_end}
 use Rattle.project_book.specs.Replaying.{IsReading}
-use Rattle.project_book.specs.Restoring.Following.{BeginsState, Follows, GoOn, HasHead, IsEndless, IsFoundedWith, IsKnown, IsKnownBy, IsKnownOf, IsLook, IsLookedAt, Knows, behind, fits, opening}
+use Rattle.project_book.specs.Restoring.Following.{BeginsState, Follows, GoOn, HasHead, IsEndless, IsFoundedWith, IsKnown, IsKnownBy, IsKnownOf, IsLook, IsLookedAt, IsNoneBehind, Knows, behind, fits, opening}
 use Rattle.project_book.proofs.RestoringProofs.FitLemmas.{follows_fits}
 use Rattle.project_book.proofs.RestoringProofs.FollowingLemmas.{HasEnd, others, others_go_on, pieces_are_others, pieces_end}
 use Rattle.project_book.proofs.StatePiecesProofs.BeginLemmas.{Begins, begins, with_founding, with_state}
@@ -180,17 +180,22 @@ looked_next are entries place bytes known so next within is looked look s rest b
 
 -- ---- faults
 
--- the piece at a place is at fault
-pub fault_here : PiecesAre → (entries : List (List ℕ)) (place : ℕ) (bytes : List ℕ) (known : Known) (so : SoFar) → place < length entries → bytes ≡ get_or entries place bytes → StartsRun entries → IsEndless entries place → IsLookedAt entries place known so → IsLook known so bytes None → IsRunFault entries (place + 1)
-fault_here are entries place bytes known so within is starts endless looked look =
+-- the piece at a place is at fault where it goes on with no state
+pub fault_by : PiecesAre → (entries : List (List ℕ)) (place : ℕ) (bytes : List ℕ) (known : Known) (so : SoFar) → place < length entries → bytes ≡ get_or entries place bytes → StartsRun entries → IsEndless entries place → IsLookedAt entries place known so → IsNoneBehind entries place known so bytes → IsRunFault entries (place + 1)
+fault_by are entries place bytes known so within is starts endless looked none =
     let next : place + 1 ≡ suc place = omega arith in
     is_no_piece starts (omega arith) (omega arith)
     (λ begun.
     let here : IsBegun (take (suc place) entries) = subst (λ n. IsBegun (take n entries)) next begun in
     let of : IsOfState (take (suc place) entries ++ here.more) = of_begun entries place within starts here in
     let cut : IsCut (pieces_of of.state) entries place = cut_at (pieces_of of.state) entries place here.more of.beyond within (pieces_end of.state) endless of.told in
-    let told : Knows known of.state × (Follows of.state so.before so.shots cut.piece × GoOn of.state (behind so cut.piece) cut.rest) = looked of.state (cut.piece ∷ cut.rest) (record { sound = of.sound; front = cut.init; whole = cut.is; told = cut.before_it }) in
-    look of.state cut.piece told.0 (piece_is are of.state cut.init cut.piece cut.rest of.sound cut.is) (cut.here ∙ here_is entries place bytes within is) told.1.0)
+    let begins : BeginsState entries place of.state (cut.piece ∷ cut.rest) = record { sound = of.sound; front = cut.init; whole = cut.is; told = cut.before_it } in
+    let told : Knows known of.state × (Follows of.state so.before so.shots cut.piece × GoOn of.state (behind so cut.piece) cut.rest) = looked of.state (cut.piece ∷ cut.rest) begins in
+    none of.state cut.rest cut.piece begins told.0 (piece_is are of.state cut.init cut.piece cut.rest of.sound cut.is) (cut.here ∙ here_is entries place bytes within is) told.1.0)
+
+pub fault_here : PiecesAre → (entries : List (List ℕ)) (place : ℕ) (bytes : List ℕ) (known : Known) (so : SoFar) → place < length entries → bytes ≡ get_or entries place bytes → StartsRun entries → IsEndless entries place → IsLookedAt entries place known so → IsLook known so bytes None → IsRunFault entries (place + 1)
+fault_here are entries place bytes known so within is starts endless looked look =
+    fault_by are entries place bytes known so within is starts endless looked (λ s rest e begins knows entered same follows. look s e knows entered same follows)
 
 -- the run lacks its end
 pub fault_past : (entries : List (List ℕ)) → StartsRun entries → IsEndless entries (length entries) → IsRunFault entries (length entries + 1)

@@ -18,6 +18,8 @@ use Rattle.project_book.specs.declared.restoring.so_far.Before.TheVariants as be
 use Rattle.project_book.specs.declared.restoring.so_far.SoFar.{SoFar}
 use Rattle.project_book.specs.Restoring.Following.{Follows, GoOn, IsDraftPiece, IsHeldPiece, IsLayerPiece, IsRowPiece, IsShotPiece, opening}
 use Rattle.project_book.proofs.RestoringProofs.NamedLemmas.{any_at}
+use Rattle.project_state.proofs.EntriesProofs.SizeLemmas.{commit_long}
+use Rattle.project_book.proofs.StatePiecesProofs.PieceEntries.{held_long}
 use Rattle.project_book.proofs.StatePiecesProofs.RunLemmas.{any_default, zip_length}
 use Rattle.project_book.proofs.StatePiecesProofs.RunParts.{cell}
 
@@ -117,7 +119,7 @@ row_free s doc who r rest within annotates k after =
     cell_free s (length s.snapshots) doc who r.revision (flags_of r) (ann_of s.conf (document s doc).text r.layer) (scripts_bytes s.conf (document s doc).text r.done r.undone) (is_committed r) (has_draft r) rest
     (record { within = within; annotates = annotates; counted = k.counted; unset = λ none. flags_none r.finished r.ignored (k.finished none) (k.ignored none) })
     (ltb-true 0 r.revision) (ltb-false 0 r.revision)
-    (λ some. record { within = within; layer = r.layer; obeys = k.layer; is = refl })
+    (λ some. record { within = within; layer = r.layer; obeys = k.layer; is = refl; short = commit_long who 0 0 (ann_of s.conf (document s doc).text r.layer) (k.commit some) })
     (λ some. record { within = within; who = who; row = r; kept = k; some = some; is = refl })
     after
 
@@ -162,7 +164,7 @@ shot_go s shot shots b rest k accepted free after =
       subst (GoOn s (at (before.Shot shot.doc (length shot.holders)) shots)) (sym (append_assoc (map (held_piece s shot) shot.holders) (entry.Decided (list_bytes verdict_bytes shot.verdicts) ∷ []) rest))
           (held_go s shot shots shot.holders (entry.Decided (list_bytes verdict_bytes shot.verdicts) ∷ rest)
           (recursion_from_All (λ (h : List ℕ × Annotations). IsHeldPiece s shot.doc h.0 (ann_of s.conf (document s shot.doc).text h.1)) shot.holders
-          (λ i h inside. record { annotates = k.annotate i h inside; layer = record { within = within; layer = (get_or shot.holders i h).1; obeys = k.layers i h inside; is = refl } }))
+          (λ i h inside. record { annotates = k.annotate i h inside; layer = record { within = within; layer = (get_or shot.holders i h).1; obeys = k.layers i h inside; is = refl; short = held_long (get_or shot.holders i h).0 (ann_of s.conf (document s shot.doc).text (get_or shot.holders i h).1) (k.short i h inside) } }))
           (record { shot = shot; kept = k; accepted = accepted; is = refl }, after)),
     )
 
@@ -190,7 +192,7 @@ regroup : (f e : Entry) (a b c : List Entry) → f ∷ a ++ b ++ c ++ e ∷ [] �
 regroup f e a b c = ap (λ (es : List Entry). f ∷ es) (append_assoc (a ++ b) c (e ∷ []) ∙ append_assoc a b (c ++ (e ∷ [])))
 
 -- the pieces of a state behind its first
-pub others : ProjectState → List Entry
+unfoldable pub others : ProjectState → List Entry
 others s = map document_piece s.documents ++ (flat_map (rows_pieces s) (enumerate_from 0 s.documents) ++ (flat_map (snapshot_pieces s) s.snapshots ++ entry.End ∷ []))
 
 pub pieces_are_others : (s : ProjectState) → pieces_of s ≡ first_piece s ∷ others s

@@ -1,5 +1,5 @@
 -- What can stand behind what in the run of pieces of a state that can be restored (private calls only).
-use Rattle.std.specs.Prelude.{◌≡◌, ℕ, ◌<◌, ◌≤◌, ◌==◌, ◌&&◌, ◌||◌, Bool, true, false, List, [], ◌∷◌, ◌++◌, length, map, take, get_or, nat_lt, nat_le, bytes_eq, Option, Some, None, suc, zero, if◌then◌else◌}
+use Rattle.std.specs.Prelude.{◌≡◌, ℕ, ◌+◌, ◌<◌, ◌≤◌, ⊤, chars, ◌==◌, ◌&&◌, ◌||◌, Bool, true, false, List, [], ◌∷◌, ◌++◌, length, map, take, get_or, nat_lt, nat_le, bytes_eq, Option, Some, None, suc, zero, if◌then◌else◌}
 use Rattle.std.specs.Arc.{arc_value}
 use Rattle.std.specs.List.{list_any}
 use Rattle.entry_bytes.specs.declared.entry.Entry.{Entry}
@@ -7,6 +7,7 @@ use Rattle.entry_bytes.specs.declared.entry.Entry.TheVariants as entry
 use Rattle.entry_bytes.specs.Entries.{entry_bytes, IsEntry}
 use Rattle.layer_model.specs.Annotations.{Annotations}
 use Rattle.ann_writer.specs.AnnOf.{ann_of}
+use Rattle.annotation_conf.specs.Configurations.{Configuration}
 use Rattle.annotation_conf.specs.ConfText.{conf_text}
 use Rattle.entry_bytes.specs.declared.person.Person.{Person}
 use Rattle.project_state.specs.declared.entries.founding.Founding.{Founding}
@@ -92,6 +93,7 @@ pub record IsLayerPiece (s : ProjectState) (doc : ℕ) (lines : List ℕ) : Type
   pub layer : Annotations
   pub obeys : LayerObeys s.conf (length (document s doc).text) layer
   pub is : lines ≡ ann_of s.conf (document s doc).text layer
+  pub short : length lines ≤ 16777216
 
 -- the commands that are parked in a row of a document
 pub record IsDraftPiece (s : ProjectState) (doc : ℕ) (commands : List ℕ) : Type 0 where
@@ -215,6 +217,37 @@ IsKnownBy bytes (Some known) = (s : ProjectState) → IsSound s → entry_bytes 
 abbrev pub IsLook : Known → SoFar → List ℕ → Option SoFar → Type 0
 IsLook known so bytes None = (s : ProjectState) (e : Entry) → Knows known s → IsEntry e → entry_bytes e ≡ bytes → Follows s so.before so.shots e → ⊥
 IsLook known so bytes (Some next) = (e : Entry) → IsEntry e → entry_bytes e ≡ bytes → next ≡ behind so e
+
+-- the text of the document of a number, in each state of which more pieces were looked at than that of the document
+abbrev pub IsTextIn : List (List ℕ) → ℕ → List ℕ → Type 0
+IsTextIn entries doc text = (s : ProjectState) (rest : List Entry) (place : ℕ) → doc + 1 < place → place ≤ length entries → doc < length s.documents → BeginsState entries place s rest → text ≡ (document s doc).text
+
+-- what an entry tells of the text of a document
+abbrev pub IsTextOf : Entry → Option (List ℕ) → Type 0
+IsTextOf e None = ⊤
+IsTextOf e (Some text) = (name bytes : List ℕ) → e ≡ entry.Document name bytes → text ≡ chars bytes
+
+-- lines are those of no layer that obeys on a text
+abbrev pub AreNoLines : Configuration → List ℕ → List ℕ → Type 0
+AreNoLines conf text lines = (layer : Annotations) → LayerObeys conf (length text) layer → lines ≡ ann_of conf text layer → length lines ≤ 16777216 → ⊥
+
+-- lines are those of no layer of a document, in each state of which so many pieces were looked at
+abbrev pub AreLinesOfNone : List (List ℕ) → ℕ → Known → ℕ → List ℕ → Type 0
+AreLinesOfNone entries place known doc lines = (s : ProjectState) (rest : List Entry) → BeginsState entries place s rest → Knows known s → IsLayerPiece s doc lines → ⊥
+
+-- a piece goes on with no state of which so many pieces were looked at
+abbrev pub IsNoneFor : List (List ℕ) → ℕ → Known → SoFar → Entry → Type 0
+IsNoneFor entries place known so e = (s : ProjectState) (rest : List Entry) → BeginsState entries place s (e ∷ rest) → Knows known s → Follows s so.before so.shots e → ⊥
+
+-- a piece of these bytes goes on with no state of which so many pieces were looked at
+abbrev pub IsNoneBehind : List (List ℕ) → ℕ → Known → SoFar → List ℕ → Type 0
+IsNoneBehind entries place known so bytes = (s : ProjectState) (rest : List Entry) (e : Entry) → BeginsState entries place s (e ∷ rest) → Knows known s → IsEntry e → entry_bytes e ≡ bytes → Follows s so.before so.shots e → ⊥
+
+-- the document of the layer that may stand next
+abbrev pub doc_wanted : Before → Option ℕ
+doc_wanted (before.Row doc revision) = Some doc
+doc_wanted (before.Shot doc wanted) = Some doc
+doc_wanted _ = None
 
 -- ---- what is tested
 

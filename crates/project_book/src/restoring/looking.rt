@@ -9,6 +9,7 @@ ghost use Rattle.project_book.specs.Restoring.Following.{IsKnownBy, IsLook};
 
 use crate::replaying::are_same;
 use crate::restoring::known::{Known, known_by};
+use crate::restoring::said_lines::lines_stand;
 use crate::restoring::so_far::{Before, SoFar, behind, fits};
 use ann_writer::written_layers_are_utf8;
 use annotation_conf::sound_configurations_are_read_back;
@@ -70,10 +71,14 @@ fn look_on(
         shots: known.snapshots,
     };
     for place in 1..entries.len() {
-        let Some(next) = look(alloc, &entries[place], known, so_far)? else {
+        let bytes = &entries[place];
+        let Some(next) = look(alloc, bytes, known, so_far)? else {
             return Ok(Some(place + 1));
         };
-        if is_end(entries[place].items()) {
+        if !lines_stand(alloc, entries, place, bytes, known, so_far)? {
+            return Ok(Some(place + 1));
+        }
+        if is_end(bytes.items()) {
             return Ok(None);
         }
         so_far = next;
