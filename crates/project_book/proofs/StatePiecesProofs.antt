@@ -2,6 +2,7 @@ pub mod RunLemmas
 pub mod RowLemmas
 pub mod RunParts
 pub mod PieceFields
+pub mod BeginLemmas
 pub mod ConfLemmas
 pub mod PieceEntries
 pub mod ValueLemmas

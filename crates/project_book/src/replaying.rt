@@ -8,13 +8,14 @@ ghost use Rattle.project_state.specs.Values.{happened_of};
 ghost use Rattle.project_book.specs.Restoring.Restoring.{IsRun};
 ghost use Rattle.project_state.specs.Entries.Asking.{plain_asking};
 ghost use Rattle.project_book.specs.Founding.{founded};
+ghost use Rattle.project_book.specs.Opening.{StartsRun};
 ghost use Rattle.project_book.specs.Replaying.{BeginsSo, IsAskedBy, IsAskingOf, IsFoundingBy, IsFreeing, IsMadeBy, IsNextKept, IsReading, IsReplayRefusal, IsTakenUp};
 
 use crate::book::Book;
 use crate::founding::{Beginning, complete, founding_change, share};
 use crate::kept_already::KeptAlready;
 use crate::open_fault::OpenFault;
-use crate::restoring::{restore, run_length};
+use crate::restoring::{fault_in, restore, run_length};
 use ann_writer::written_layers_are_utf8;
 use annotation_conf::sound_configurations_are_read_back;
 use entry_bytes::{Entry, entries_are_told_apart, read_entry, write_entry};
@@ -38,7 +39,7 @@ const FREEING_TAG: u8 = 12;
 const STATE_TAG: u8 = 16;
 
 /// Whether bytes are the same.
-fn are_same(bytes: &[u8], others: &[u8]) -> bool
+pub(crate) fn are_same(bytes: &[u8], others: &[u8]) -> bool
     ensures same { result ≡ true → bytes.now ≡ others.now }
     ensures differ { result ≡ false → bytes.now ≢ others.now }
 {
@@ -55,7 +56,8 @@ fn is_freeing(bytes: &[u8]) -> bool
 
 /// Whether bytes are those of the first entry of a whole state.
 fn begins_state(bytes: &[u8]) -> bool
-    ensures { result ≡ false → slice_get bytes.now 0 ≢ Some 16 }
+    ensures state { result ≡ true → slice_get bytes.now 0 ≡ Some 16 }
+    ensures other { result ≡ false → slice_get bytes.now 0 ≢ Some 16 }
 {
     match bytes.first() {
         Some(tag) => *tag == STATE_TAG,
@@ -363,23 +365,53 @@ fn begun_of_run<G: Ledger>(
     }
 }
 
-/// The project behind the run of pieces with which some entries begin. Where no state is read of it, memory is said to
-/// run out: which piece is at fault is not looked for.
+/// The project behind the run of pieces with which some entries begin, and how many these are, where a state is read of
+/// them.
+fn begun_of_entries<G: Ledger>(
+    alloc: Global,
+    entries: &[Bytes],
+    steps: &mut Steps<G>,
+) -> Result<Option<Started>, Memory>
+    ensures within { IfOk result (λ found. IfSome found (λ started. started.count ≤ length entries.now)) }
+    ensures told { IfOk result (λ found. IfSome found (λ started. IsReplay (take started.count entries.now) started.book.log)) }
+{
+    let Some(count) = run_length(entries) else {
+        return Ok(None);
+    };
+    match begun_of_run(alloc, &entries[..count], steps)? {
+        Some(book) => Ok(Some(Started { book, count })),
+        None => Ok(None),
+    }
+}
+
+/// Why no project is read of the run of pieces with which some entries begin. Where no piece is found at fault, memory
+/// is said to run out: that this never comes is not proved.
+fn run_refusal(alloc: Global, entries: &[Bytes]) -> Result<OpenFault, Memory>
+    requires { StartsRun entries.now }
+    ensures { IfOk result (IsReplayRefusal entries.now) }
+{
+    match fault_in(alloc, entries)? {
+        Some(number) => Ok(OpenFault::BadEntry(number as u64)),
+        None => Ok(OpenFault::Memory),
+    }
+}
+
+/// The project behind the run of pieces with which some entries begin, or why there is none.
 fn begun_restored<G: Ledger>(
     alloc: Global,
     entries: &[Bytes],
     steps: &mut Steps<G>,
-) -> Result<Started, Memory>
+) -> Result<Started, OpenFault>
+    requires { StartsRun entries.now }
     ensures within { IfOk result (λ started. started.count ≤ length entries.now) }
     ensures told { IfOk result (λ started. IsReplay (take started.count entries.now) started.book.log) }
+    ensures refused { IfErr result (IsReplayRefusal entries.now) }
 {
-    let Some(count) = run_length(entries) else {
-        return Err(Memory);
-    };
-    match begun_of_run(alloc, &entries[..count], steps)? {
-        Some(book) => Ok(Started { book, count }),
-        None => Err(Memory),
+    if let Some(started) = begun_of_entries(alloc, entries, steps)? {
+        return Ok(started);
     }
+    let why = run_refusal(alloc, entries)?;
+    Err(why)
 }
 
 /// The project behind its first change, or why there is none.
@@ -396,8 +428,7 @@ fn begun<G: Ledger>(
         return Err(OpenFault::BadEntry(1));
     };
     if begins_state(first.items()) {
-        let started = begun_restored(alloc, entries, steps)?;
-        return Ok(started);
+        return begun_restored(alloc, entries, steps);
     }
     match begun_by(alloc, first)? {
         Some(book) => Ok(Started { book, count: 1 }),

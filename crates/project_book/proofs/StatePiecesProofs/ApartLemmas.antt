@@ -14,11 +14,12 @@ use Rattle.entry_bytes.specs.declared.person.Person.{Person}
 use Rattle.entry_bytes.specs.Entries.{entry_bytes}
 use Rattle.project_machine.specs.Entries.{document_piece, first_piece, flags_of, founding_entry, has_draft, is_committed, pieces_of, row_pieces, rows_pieces, snapshot_pieces}
 use Rattle.project_machine.specs.History.{encoded}
-use Rattle.project_machine.specs.Legal.{IsDocumentKept, IsKept, IsLegal, IsRowKept, IsSnapshotKept, IsSound, legal_founding, legal_freeing, legal_restored, legal_step}
+use Rattle.project_machine.specs.Legal.{IsDocumentKept, IsKept, IsRowKept, IsSnapshotKept, IsSound, legal_restored}
 use Rattle.project_machine.specs.Opening.{GoesOn, IsReplay, restored}
 use Rattle.project_machine.specs.ProjectState.{Row, Document, Snapshot, ProjectState, annotators, document, is_some_out, no_document}
-use Rattle.project_machine.specs.Requests.{Happened, AllFreed, Founded, Restored}
+use Rattle.project_machine.specs.Requests.{Happened, Founded, Restored}
 use Rattle.project_state.proofs.EntriesProofs.AgainLemmas.{LoadsAreRead, ReadAgain, TypedAreRead}
+use Rattle.project_book.proofs.StatePiecesProofs.BeginLemmas.{Begins, begins, with_founding, with_state}
 use Rattle.project_book.proofs.StatePiecesProofs.ConfLemmas.{ReadBack}
 use Rattle.project_book.proofs.StatePiecesProofs.PieceEntries.{WrittenIsUtf8, annotators_sorted, of_text, pieces_are}
 use Rattle.project_book.proofs.StatePiecesProofs.PieceFields.{sorted_differ}
@@ -210,21 +211,6 @@ state_told laws s t more other sound good e =
     states_equal s t conf first.level first.people first.place documents (all_snapshots laws s t sound good conf documents first.snapshots shots.0)
 
 -- ---- histories
-
--- a history begins with a founding, or with a state that can be restored
-data Begins (log : List Happened) : Type 0 where
-  with_founding : (conf : Configuration) (level : ℕ) (people : List Person) (rest : List Happened) → log ≡ Founded conf level people ∷ rest → Begins log
-  with_state : (state : ProjectState) (rest : List Happened) → IsSound state → log ≡ Restored state.place state ∷ rest → Begins log
-
-begins_more : (log : List Happened) (e : Happened) → Begins log → Begins (log ++ e ∷ [])
-begins_more log e (with_founding conf level people rest same) = with_founding conf level people (rest ++ e ∷ []) (ap (λ l. l ++ e ∷ []) same)
-begins_more log e (with_state state rest sound same) = with_state state (rest ++ e ∷ []) sound (ap (λ l. l ++ e ∷ []) same)
-
-begins : (log : List Happened) → IsLegal log → Begins log
-begins _ (legal_founding conf level people is) = with_founding conf level people [] refl
-begins _ (legal_restored state sound) = with_state state [] sound refl
-begins _ (legal_step log caller asked e l typed is) = begins_more log e (begins log l)
-begins _ (legal_freeing log l is) = begins_more log AllFreed (begins log l)
 
 no_founding : (s : ProjectState) (text : List ℕ) (people : List Person) (level : ℕ) (b : Bool) → entry_bytes (first_piece s) ≡ entry_bytes (cond b (entry.Found text people) (entry.FoundAt text people level)) → ⊥
 unfolding entry_bytes

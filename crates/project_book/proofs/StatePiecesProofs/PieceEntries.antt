@@ -145,7 +145,7 @@ all_rows_are written s sound =
 
 -- ---- the other pieces
 
-document_are : (s : ProjectState) (d : Document) → IsDocumentKept s.conf (annotators s) s.place d → IsEntry (document_piece d)
+pub document_are : (s : ProjectState) (d : Document) → IsDocumentKept s.conf (annotators s) s.place d → IsEntry (document_piece d)
 document_are s d k = (k.name, record { utf8 = k.text.valid; size = text_short d.text k.text.short })
 
 held_are : WrittenIsUtf8 → (s : ProjectState) (shot : Snapshot) → IsKept s → IsSnapshotKept s shot → AllByRecursion IsEntry (map (held_piece s shot) shot.holders)

@@ -1,0 +1,102 @@
+//! Where a run of pieces is at fault.
+//!
+//! A run of which no state is read is looked at piece by piece. The piece that is named is one with which no state
+//! goes on whose first pieces are those before it. Whether it is the first such is not said.
+ghost use Rattle.std.specs.Prelude.{◌≡◌, ◌≢◌, [], ◌∷◌, IfOk, IfSome, Some, false, slice_get};
+ghost use Rattle.project_book.specs.Opening.{IsRunFault, StartsRun};
+ghost use Rattle.project_book.specs.Replaying.{IsReading};
+ghost use Rattle.project_book.specs.Restoring.Following.{IsKnownBy, IsLook};
+
+use crate::replaying::are_same;
+use crate::restoring::known::{Known, known_by};
+use crate::restoring::said_lines::lines_stand;
+use crate::restoring::so_far::{Before, SoFar, behind, fits};
+use ann_writer::written_layers_are_utf8;
+use annotation_conf::sound_configurations_are_read_back;
+use entry_bytes::{Entry, entries_are_told_apart, read_entry};
+use mark_base::{Bytes, Memory};
+use std::alloc::Global;
+
+/// The one byte of the last piece.
+const END_TAG: u8 = 24;
+
+/// Whether bytes are those of the last piece of a run.
+fn is_end(bytes: &[u8]) -> bool
+    ensures other { result ≡ false → bytes.now ≢ 24 ∷ [] }
+{
+    are_same(bytes, &[END_TAG])
+}
+
+/// How far a run has come behind the piece that bytes were read as; `None` where no state goes on with it.
+fn look_in(read: &Option<Entry>, bytes: &Bytes, known: &Known, so_far: SoFar) -> Option<SoFar>
+    requires { IsReading bytes.now read.now }
+    ensures { IsLook known.now so_far bytes.now result }
+{
+    entries_are_told_apart();
+    let Some(entry) = read else {
+        return None;
+    };
+    if !fits(known, so_far, entry) {
+        return None;
+    }
+    Some(behind(so_far, entry))
+}
+
+/// How far a run has come behind the piece of these bytes; `None` where no state goes on with it.
+fn look(alloc: Global, bytes: &Bytes, known: &Known, so_far: SoFar) -> Result<Option<SoFar>, Memory>
+    ensures { IfOk result (IsLook known.now so_far bytes.now) }
+{
+    let read = read_entry(alloc, bytes.items())?;
+    Ok(look_in(&read, bytes, known, so_far))
+}
+
+/// The piece at which a run is at fault, of which the first tells so much, or the number past the last entry where it
+/// lacks its end. `None` where none is found up to its end.
+fn look_on(
+    alloc: Global,
+    entries: &[Bytes],
+    first: &Bytes,
+    known: &Known,
+) -> Result<Option<usize>, Memory>
+    requires first { slice_get entries.now 0 ≡ Some first.now }
+    requires begins { StartsRun entries.now }
+    requires known { IsKnownBy first.now (Some known.now) }
+    ensures { IfOk result (λ found. IfSome found (IsRunFault entries.now)) }
+{
+    entries_are_told_apart();
+    sound_configurations_are_read_back();
+    written_layers_are_utf8();
+    let mut so_far = SoFar {
+        before: Before::Texts(known.documents),
+        shots: known.snapshots,
+    };
+    for place in 1..entries.len() {
+        let bytes = &entries[place];
+        let Some(next) = look(alloc, bytes, known, so_far)? else {
+            return Ok(Some(place + 1));
+        };
+        if !lines_stand(alloc, entries, place, bytes, known, so_far)? {
+            return Ok(Some(place + 1));
+        }
+        if is_end(bytes.items()) {
+            return Ok(None);
+        }
+        so_far = next;
+    }
+    Ok(Some(entries.len() + 1))
+}
+
+/// The piece at which the run of pieces is at fault with which some entries begin, or the number past the last entry
+/// where the run lacks its end. `None` where none is found. Cost: the bytes of the run.
+pub(crate) fn fault_in(alloc: Global, entries: &[Bytes]) -> Result<Option<usize>, Memory>
+    requires { StartsRun entries.now }
+    ensures { IfOk result (λ found. IfSome found (IsRunFault entries.now)) }
+{
+    let Some(first) = entries.first() else {
+        return Ok(None);
+    };
+    match known_by(alloc, first)? {
+        Some(known) => look_on(alloc, entries, first, &known),
+        None => Ok(Some(1)),
+    }
+}
