@@ -3,7 +3,7 @@ use Rattle.std.proofs.Common.{◌≡◌, ℕ, Bool, true, false, List, [], ◌�
 use Rattle.std.specs.Prelude.{bytes_eq, codes, option_and_then, option_map}
 use Rattle.std.specs.Bool.{Decides}
 use Rattle.std.proofs.lemmas.Slice.Eq.{bytes_eq-Decides}
-use Rattle.annotation_cli.specs.Asked.{Command, BookCommand, Help, Session, Compact, OnBook, Agree, Curated, Export, Try, Verify, ColumnsIn, Found, Add, Import, NamesTwo, alone, with_one, with_two, with_three, with_four, compact_of, curated_of, export_of, add_of, import_of, found_at, unless_hyphens, has_hyphen, is_slug, number_read, level_of, command_of}
+use Rattle.annotation_cli.specs.Asked.{Command, BookCommand, Help, Session, Compact, OnBook, Agree, Curated, Export, ColumnsOut, Try, Verify, ColumnsIn, Found, Add, Import, NamesTwo, alone, with_one, with_two, with_three, with_four, compact_of, curated_of, export_of, columns_of, add_of, import_of, found_at, unless_hyphens, has_hyphen, is_slug, number_read, level_of, command_of}
 
 false_true : ◌≡◌ {A = Bool} false true → ⊥
 false_true same = cc
@@ -45,7 +45,8 @@ of_three name a b c =
     either (bytes_eq name (codes "verify")) (Some (Verify a b c)) _ tt
     (either (bytes_eq name (codes "columns-in")) (Some (ColumnsIn a b c)) _ tt
     (either (bytes_eq name (codes "found")) (Some (OnBook (Found a b c 255))) _ tt
-    (either (bytes_eq name (codes "export")) (export_of a b c) None (either (is_slug b && is_slug c) (Some (OnBook (Export a b c))) None tt tt) tt)))
+    (either (bytes_eq name (codes "export")) (export_of a b c) _ (either (is_slug b && is_slug c) (Some (OnBook (Export a b c))) None tt tt)
+    (either (bytes_eq name (codes "columns-out")) (columns_of a b c) None (either (is_slug b && is_slug c) (Some (OnBook (ColumnsOut a b c))) None tt tt) tt))))
 
 of_four : (name a b c d : List ℕ) → NamesTwo (with_four name a b c d)
 of_four name a b c d =

@@ -14,6 +14,7 @@ pub data BookCommand : Type 0 where
   Add : (book caller name text : List ℕ) → BookCommand
   Import : (book who name ann : List ℕ) → BookCommand
   Export : (book who name : List ℕ) → BookCommand
+  ColumnsOut : (book who name : List ℕ) → BookCommand
   Agree : (book : List ℕ) → BookCommand
   Curated : (book : List ℕ) (number : ℕ) → BookCommand
 
@@ -80,13 +81,18 @@ with_two name a b =
 abbrev pub export_of : (book who name : List ℕ) → Option Command
 export_of book who name = if is_slug who && is_slug name then Some (OnBook (Export book who name)) else None
 
+-- the columns of the committed layer of an annotator on a document, by words that may name them
+abbrev pub columns_of : (book who name : List ℕ) → Option Command
+columns_of book who name = if is_slug who && is_slug name then Some (OnBook (ColumnsOut book who name)) else None
+
 -- commands of three words more
 abbrev pub with_three : (name a b c : List ℕ) → Option Command
 with_three name a b c =
     if bytes_eq name (codes "verify") then Some (Verify a b c)
     else if bytes_eq name (codes "columns-in") then Some (ColumnsIn a b c)
     else if bytes_eq name (codes "found") then Some (OnBook (Found a b c 255))
-    else if bytes_eq name (codes "export") then export_of a b c else None
+    else if bytes_eq name (codes "export") then export_of a b c
+    else if bytes_eq name (codes "columns-out") then columns_of a b c else None
 
 -- a document more of a caller, by words that may name them
 abbrev pub add_of : (book caller name text : List ℕ) → Option Command
@@ -128,6 +134,7 @@ book_command_in (on.Found book conf roster level) = Found book.now conf.now rost
 book_command_in (on.Add book caller name text) = Add book.now caller name text.now
 book_command_in (on.Import book who name ann) = Import book.now who name ann.now
 book_command_in (on.Export book who name) = Export book.now who name
+book_command_in (on.ColumnsOut book who name) = ColumnsOut book.now who name
 book_command_in (on.Agree book) = Agree book.now
 book_command_in (on.Curated book number) = Curated book.now number
 
@@ -147,6 +154,7 @@ file_in (Found book conf roster level) = book
 file_in (Add book caller name text) = book
 file_in (Import book who name ann) = book
 file_in (Export book who name) = book
+file_in (ColumnsOut book who name) = book
 file_in (Agree book) = book
 file_in (Curated book number) = book
 

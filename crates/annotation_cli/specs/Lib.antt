@@ -2,6 +2,7 @@ pub mod Commands
 pub mod Adding
 pub mod Asked
 pub mod ColumnsIn
+pub mod ColumnsOut
 pub mod Compacting
 pub mod Founding
 pub mod Help

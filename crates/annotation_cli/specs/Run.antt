@@ -12,8 +12,9 @@ use Rattle.annotation_cli.specs.Adding.{Adds, NotAdded}
 use Rattle.annotation_cli.specs.Importing.{Imports, NotImported}
 use Rattle.annotation_cli.specs.Showing.{Agrees, Exports, NoSnapshot, NotAgreed, NotExported, ShowsSnapshot}
 use Rattle.annotation_cli.specs.Sessions.{SessionTold}
-use Rattle.annotation_cli.specs.Asked.{BookCommand, Found, Add, Import, Export, Agree, Curated, Command, Help, Try, Verify, ColumnsIn, Compact, Session, OnBook, IsFileIn, command_of}
+use Rattle.annotation_cli.specs.Asked.{BookCommand, Found, Add, Import, Export, ColumnsOut, Agree, Curated, Command, Help, Try, Verify, ColumnsIn, Compact, Session, OnBook, IsFileIn, command_of}
 use Rattle.annotation_cli.specs.ColumnsIn.{ColumnsTold}
+use Rattle.annotation_cli.specs.ColumnsOut.{NoColumns, PrintsColumns}
 use Rattle.annotation_cli.specs.Compacting.{Compacts, NotCompacted}
 use Rattle.annotation_cli.specs.Verify.{VerifyTold}
 
@@ -42,6 +43,8 @@ Finds file (Import book who name ann) before now stored stored_now found =
     MatchResult found (Imports (reads_as stored book) (reads_as stored_now book) who name (file ann)) (NotImported (reads_as stored book) who name (file ann) before now)
 Finds file (Export book who name) before now stored stored_now found =
     MatchResult found (Exports (reads_as stored book) (reads_as stored_now book) who name) (NotExported (reads_as stored book) who name)
+Finds file (ColumnsOut book who name) before now stored stored_now found =
+    MatchResult found (PrintsColumns (reads_as stored book) (reads_as stored_now book) who name) (NoColumns (reads_as stored book) who name)
 Finds file (Agree book) before now stored stored_now found = MatchResult found (Agrees (reads_as stored book) (reads_as stored_now book)) (NotAgreed (reads_as stored book))
 Finds file (Curated book number) before now stored stored_now found =
     MatchResult found (ShowsSnapshot (reads_as stored book) (reads_as stored_now book) number) (NoSnapshot (reads_as stored book) number)

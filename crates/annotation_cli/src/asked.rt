@@ -2,7 +2,7 @@
 ghost use Rattle.std.specs.Prelude.{◌≡◌, ◌||◌, false, true, is_none, map, option_and_then, option_map, string_bytes, IfNone, IfOk, IfSome};
 ghost use Rattle.std.specs.Str.{all_ascii_digits};
 ghost use Rattle.mark_base.specs.Names.{slug_fault};
-ghost use Rattle.annotation_cli.specs.Asked.{add_of, alone, command_in, command_of, compact_of, export_of, found_at, has_hyphen, import_of, is_slug, level_of, number_read, unless_hyphens, with_four, with_one, with_three, with_two};
+ghost use Rattle.annotation_cli.specs.Asked.{add_of, alone, columns_of, command_in, command_of, compact_of, export_of, found_at, has_hyphen, import_of, is_slug, level_of, number_read, unless_hyphens, with_four, with_one, with_three, with_two};
 
 use mark_base::{Memory, NameFault, Slug};
 use std::alloc::Global;
@@ -33,6 +33,12 @@ pub(crate) enum BookJob<'w> {
     },
     /// The committed layer of an annotator.
     Export {
+        book: &'w str,
+        who: Slug,
+        name: Slug,
+    },
+    /// The token and label columns of the committed layer of an annotator.
+    ColumnsOut {
         book: &'w str,
         who: Slug,
         name: Slug,
@@ -228,6 +234,24 @@ fn export_of<'w>(
     Ok(Some(Job::Book(BookJob::Export { book, who, name })))
 }
 
+/// The columns of the committed layer of an annotator on a document, where two words may name them.
+fn columns_of<'w>(
+    alloc: Global,
+    book: &'w str,
+    who: &str,
+    name: &str,
+) -> Result<Option<Job<'w>>, Memory>
+    ensures { IfOk result (λ job. option_map command_in job ≡ columns_of book.now who.now name.now) }
+{
+    let Some(who) = slug_read(alloc, who)? else {
+        return Ok(None);
+    };
+    let Some(name) = slug_read(alloc, name)? else {
+        return Ok(None);
+    };
+    Ok(Some(Job::Book(BookJob::ColumnsOut { book, who, name })))
+}
+
 /// The job of a command's name and three words more.
 fn with_three<'w>(
     alloc: Global,
@@ -262,6 +286,9 @@ fn with_three<'w>(
     }
     if name == "export" {
         return export_of(alloc, a, b, c);
+    }
+    if name == "columns-out" {
+        return columns_of(alloc, a, b, c);
     }
     Ok(None)
 }

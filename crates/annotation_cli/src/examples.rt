@@ -13,7 +13,7 @@ pub fn examples_of_words()
     ensures many { command_of (codes "try" ∷ codes "a" ∷ codes "b" ∷ codes "c" ∷ []) ≡ None }
     ensures three { command_of (codes "verify" ∷ codes "a" ∷ codes "b" ∷ codes "c" ∷ []) ≡ Some (Verify (codes "a") (codes "b") (codes "c")) }
     ensures columns { command_of (codes "columns-in" ∷ codes "a" ∷ codes "b" ∷ codes "c" ∷ []) ≡ Some (ColumnsIn (codes "a") (codes "b") (codes "c")) }
-    ensures outward { command_of (codes "columns-out" ∷ codes "a" ∷ codes "b" ∷ codes "c" ∷ []) ≡ None }
+    ensures outward { command_of (codes "columns-out" ∷ codes "a" ∷ codes "b" ∷ []) ≡ None }
     ensures zeros { command_of (codes "curated" ∷ codes "b" ∷ codes "007" ∷ []) ≡ Some (OnBook (Curated (codes "b") 7)) }
     ensures signed { command_of (codes "curated" ∷ codes "b" ∷ codes "+7" ∷ []) ≡ None }
     ensures large { command_of (codes "curated" ∷ codes "b" ∷ codes "4294967296" ∷ []) ≡ None }

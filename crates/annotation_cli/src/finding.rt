@@ -6,7 +6,10 @@ ghost use Rattle.annotation_cli.specs.Asked.{book_command_in, file_in};
 ghost use Rattle.annotation_cli.specs.Run.{Finds};
 
 use crate::asked::BookJob;
-use crate::{add_document, export_layer, found_in_file, import_file, show_agreement, show_curated};
+use crate::{
+    add_document, export_layer, found_in_file, import_file, show_agreement, show_columns,
+    show_curated,
+};
 use mark_base::{Bytes, Steps};
 use named_disks::Disks;
 use program_inputs::{Folder, Trouble};
@@ -52,6 +55,9 @@ pub(crate) fn find<F: Folder, D: Disks, G: Ledger>(
         } => import_file(alloc, book, who, name, ann, folder, disks, steps),
         BookJob::Export { book, who, name } => {
             export_layer(alloc, book, &who, name, disks, steps)
+        }
+        BookJob::ColumnsOut { book, who, name } => {
+            show_columns(alloc, book, &who, name, disks, steps)
         }
         BookJob::Agree { book } => show_agreement(alloc, book, disks, steps),
         BookJob::Curated { book, number } => {

@@ -25,6 +25,8 @@ BOOK is the file of a project. Each other file is only read.
       annotate import news.book ann rome rome.ann
   export BOOK WHO NAME           prints a committed layer as .ann lines
       annotate export news.book ann rome
+  columns-out BOOK WHO NAME      prints a committed layer as token and label columns
+      annotate columns-out news.book ann rome
   agree BOOK                     prints the tables of agreement
       annotate agree news.book
   curated BOOK NUMBER            prints the curated layer of a snapshot as .ann lines

@@ -26,6 +26,7 @@ mod adding;
 mod agreeing;
 mod asked;
 mod columns_in;
+mod columns_out;
 mod commands;
 mod compacting;
 mod examples;
@@ -43,6 +44,7 @@ mod world;
 pub use crate::adding::add_document;
 pub use crate::agreeing::show_agreement;
 pub use crate::asked::{has_hyphen, number_read};
+pub use crate::columns_out::show_columns;
 pub use crate::commands::{
     add_text, ask_granted, check_out, requests_are_granted_or_refused, serve, slug_of, try_project,
 };

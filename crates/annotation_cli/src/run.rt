@@ -119,6 +119,7 @@ fn looks_for_faults(job: &Option<Job<'_>>) -> bool
 /// | `session BOOK` | the console is served with the project | the answers |
 /// | `import BOOK WHO NAME ANN` | the layer of an .ann file is committed for an annotator | `revision 1` |
 /// | `export BOOK WHO NAME` | | the committed layer as .ann lines |
+/// | `columns-out BOOK WHO NAME` | | the committed layer as token and label columns |
 /// | `agree BOOK` | | both tables of agreement, with an empty line between |
 /// | `curated BOOK NUMBER` | | the curated layer of a snapshot as .ann lines |
 /// | `compact BOOK MADE` | another file becomes a journal that begins with the state of the project | `place 2` |

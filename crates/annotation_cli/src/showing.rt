@@ -58,14 +58,14 @@ pub(crate) fn curator_in<K: Keeper>(project: &Book<K>) -> Result<Slug, Memory>
 
 /// A layer with the text and the configuration that it is for.
 #[derive(Drop)]
-struct LayerRead {
-    layer: Arc<Layer>,
-    doc: Arc<Doc>,
-    conf: Arc<Conf>,
+pub(crate) struct LayerRead {
+    pub(crate) layer: Arc<Layer>,
+    pub(crate) doc: Arc<Doc>,
+    pub(crate) conf: Arc<Conf>,
 }
 
 /// The committed layer of an annotator, as a caller reads it.
-fn read_layer<K: Keeper, G: Ledger>(
+pub(crate) fn read_layer<K: Keeper, G: Ledger>(
     project: &mut Book<K>,
     caller: &Slug,
     doc: Slug,

@@ -5,3 +5,4 @@ pub mod TotalLemmas
 pub mod DocumentLemmas
 pub mod ScoreLemmas
 pub mod WorkedLemmas
+pub mod TableLemmas

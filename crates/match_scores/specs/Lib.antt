@@ -5,3 +5,4 @@ pub mod Places
 pub mod Shifting
 pub mod Counted
 pub mod WorkedLayers
+pub mod ScoreTable

@@ -16,6 +16,13 @@
 //! scores.withdraw(doc, 1);
 //! ```
 //!
+//! [`scores_csv`] writes the lines of each two annotators as a table:
+//!
+//! ```text
+//! first,second,sort,both,first_only,second_only,top,bottom,score
+//! ann,bob,spans,2,0,1,4,5,0.8000
+//! ```
+//!
 //! The code below [`Scores`], from the outside in: `document` keeps the layers of one document, `totals`
 //! shifts the counts of each two annotators, `marks` and `places` have a layer by the places of its contents
 //! in the document's table, and `tally` has the counts.
@@ -27,6 +34,7 @@ mod marks;
 mod places;
 mod scores;
 mod sort;
+mod table;
 mod tally;
 mod totals;
 mod worked;
@@ -34,4 +42,5 @@ mod worked;
 pub use crate::line::ScoreLine;
 pub use crate::scores::Scores;
 pub use crate::sort::Sort;
+pub use crate::table::scores_csv;
 pub use crate::worked::worked_lines;
