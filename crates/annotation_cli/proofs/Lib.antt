@@ -5,4 +5,7 @@ mod NumberLemmas
 mod WordLemmas
 mod ImportLemmas
 mod WeakLemmas
+mod KeeperLemmas
+mod PostingLemmas
+mod ReadingLemmas
 pub mod CommandsProofs

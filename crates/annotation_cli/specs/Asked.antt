@@ -16,6 +16,7 @@ pub data BookCommand : Type 0 where
   Export : (book who name : List ℕ) → BookCommand
   ColumnsOut : (book who name : List ℕ) → BookCommand
   Agree : (book : List ℕ) → BookCommand
+  Scores : (book : List ℕ) → BookCommand
   Curated : (book : List ℕ) (number : ℕ) → BookCommand
 
 -- a command, with the words behind its name
@@ -60,7 +61,8 @@ alone name = if bytes_eq name (codes "--help") then Some Help else None
 abbrev pub with_one : (name a : List ℕ) → Option Command
 with_one name a =
     if bytes_eq name (codes "session") then Some (Session a)
-    else if bytes_eq name (codes "agree") then Some (OnBook (Agree a)) else None
+    else if bytes_eq name (codes "agree") then Some (OnBook (Agree a))
+    else if bytes_eq name (codes "scores") then Some (OnBook (Scores a)) else None
 
 -- the curated layer of a snapshot of this number
 abbrev pub curated_of : (book : List ℕ) → Option ℕ → Option Command
@@ -136,6 +138,7 @@ book_command_in (on.Import book who name ann) = Import book.now who name ann.now
 book_command_in (on.Export book who name) = Export book.now who name
 book_command_in (on.ColumnsOut book who name) = ColumnsOut book.now who name
 book_command_in (on.Agree book) = Agree book.now
+book_command_in (on.Scores book) = Scores book.now
 book_command_in (on.Curated book number) = Curated book.now number
 
 -- the command of a job
@@ -156,6 +159,7 @@ file_in (Import book who name ann) = book
 file_in (Export book who name) = book
 file_in (ColumnsOut book who name) = book
 file_in (Agree book) = book
+file_in (Scores book) = book
 file_in (Curated book number) = book
 
 -- a command that works on two files names two

@@ -9,6 +9,7 @@ pub mod Help
 pub mod Importing
 pub mod Printing
 pub mod Run
+pub mod Scoring
 pub mod Sessions
 pub mod Showing
 pub mod Verify

@@ -11,8 +11,9 @@ use Rattle.annotation_cli.specs.Founding.{Founds, NotFounded}
 use Rattle.annotation_cli.specs.Adding.{Adds, NotAdded}
 use Rattle.annotation_cli.specs.Importing.{Imports, NotImported}
 use Rattle.annotation_cli.specs.Showing.{Agrees, Exports, NoSnapshot, NotAgreed, NotExported, ShowsSnapshot}
+use Rattle.annotation_cli.specs.Scoring.{NotScored, PrintsScores}
 use Rattle.annotation_cli.specs.Sessions.{SessionTold}
-use Rattle.annotation_cli.specs.Asked.{BookCommand, Found, Add, Import, Export, ColumnsOut, Agree, Curated, Command, Help, Try, Verify, ColumnsIn, Compact, Session, OnBook, IsFileIn, command_of}
+use Rattle.annotation_cli.specs.Asked.{BookCommand, Found, Add, Import, Export, ColumnsOut, Agree, Scores, Curated, Command, Help, Try, Verify, ColumnsIn, Compact, Session, OnBook, IsFileIn, command_of}
 use Rattle.annotation_cli.specs.ColumnsIn.{ColumnsTold}
 use Rattle.annotation_cli.specs.ColumnsOut.{NoColumns, PrintsColumns}
 use Rattle.annotation_cli.specs.Compacting.{Compacts, NotCompacted}
@@ -46,6 +47,7 @@ Finds file (Export book who name) before now stored stored_now found =
 Finds file (ColumnsOut book who name) before now stored stored_now found =
     MatchResult found (PrintsColumns (reads_as stored book) (reads_as stored_now book) who name) (NoColumns (reads_as stored book) who name)
 Finds file (Agree book) before now stored stored_now found = MatchResult found (Agrees (reads_as stored book) (reads_as stored_now book)) (NotAgreed (reads_as stored book))
+Finds file (Scores book) before now stored stored_now found = MatchResult found (PrintsScores (reads_as stored book) (reads_as stored_now book)) (NotScored (reads_as stored book))
 Finds file (Curated book number) before now stored stored_now found =
     MatchResult found (ShowsSnapshot (reads_as stored book) (reads_as stored_now book) number) (NoSnapshot (reads_as stored book) number)
 

@@ -47,6 +47,10 @@ pub(crate) enum BookJob<'w> {
     Agree {
         book: &'w str,
     },
+    /// The scores of each two annotators.
+    Scores {
+        book: &'w str,
+    },
     /// The curated layer of a snapshot.
     Curated {
         book: &'w str,
@@ -182,6 +186,9 @@ fn with_one<'w>(name: &str, a: &'w str) -> Option<Job<'w>>
     }
     if name == "agree" {
         return Some(Job::Book(BookJob::Agree { book: a }));
+    }
+    if name == "scores" {
+        return Some(Job::Book(BookJob::Scores { book: a }));
     }
     None
 }

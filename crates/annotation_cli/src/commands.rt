@@ -17,5 +17,6 @@ mod trying;
 pub use crate::commands::founding::slug_of;
 pub use crate::commands::laws::requests_are_granted_or_refused;
 pub use crate::commands::requests::{add_text, ask_granted, check_out};
+pub(crate) use crate::commands::requests::{ask, trouble_of};
 pub use crate::commands::serving::serve;
 pub use crate::commands::trying::try_project;

@@ -1,6 +1,6 @@
 //! The definitions of words on a few examples.
 ghost use Rattle.std.specs.Prelude.{◌≡◌, ◌∷◌, [], None, Some, codes};
-ghost use Rattle.annotation_cli.specs.Asked.{command_of, Agree, ColumnsIn, Compact, Curated, Found, Help, OnBook, Session, Try, Verify};
+ghost use Rattle.annotation_cli.specs.Asked.{command_of, Agree, ColumnsIn, Compact, Curated, Found, Help, OnBook, Scores, Session, Try, Verify};
 
 /// Which words are a command.
 pub fn examples_of_words()
@@ -22,6 +22,7 @@ pub fn examples_of_words()
     ensures no_level { command_of (codes "found-at" ∷ codes "b" ∷ codes "c" ∷ codes "r" ∷ codes "255" ∷ []) ≡ None }
     ensures one { command_of (codes "session" ∷ codes "b" ∷ []) ≡ Some (Session (codes "b")) }
     ensures agreed { command_of (codes "agree" ∷ codes "b" ∷ []) ≡ Some (OnBook (Agree (codes "b"))) }
+    ensures scored { command_of (codes "scores" ∷ codes "b" ∷ []) ≡ Some (OnBook (Scores (codes "b"))) }
     ensures apart { command_of (codes "compact" ∷ codes "b" ∷ codes "n" ∷ []) ≡ Some (Compact (codes "b") (codes "n")) }
     ensures itself { command_of (codes "compact" ∷ codes "b" ∷ codes "b" ∷ []) ≡ None }
     ensures two { command_of (codes "verify" ∷ codes "a" ∷ codes "b" ∷ []) ≡ None }

@@ -8,7 +8,7 @@ ghost use Rattle.annotation_cli.specs.Run.{Finds};
 use crate::asked::BookJob;
 use crate::{
     add_document, export_layer, found_in_file, import_file, show_agreement, show_columns,
-    show_curated,
+    show_curated, show_scores,
 };
 use mark_base::{Bytes, Steps};
 use named_disks::Disks;
@@ -60,6 +60,7 @@ pub(crate) fn find<F: Folder, D: Disks, G: Ledger>(
             show_columns(alloc, book, &who, name, disks, steps)
         }
         BookJob::Agree { book } => show_agreement(alloc, book, disks, steps),
+        BookJob::Scores { book } => show_scores(alloc, book, disks, steps),
         BookJob::Curated { book, number } => {
             show_curated(alloc, book, u64::from(number), disks, steps)
         }

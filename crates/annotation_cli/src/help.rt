@@ -29,6 +29,8 @@ BOOK is the file of a project. Each other file is only read.
       annotate columns-out news.book ann rome
   agree BOOK                     prints the tables of agreement
       annotate agree news.book
+  scores BOOK                    prints the exact-match scores of each two annotators
+      annotate scores news.book
   curated BOOK NUMBER            prints the curated layer of a snapshot as .ann lines
       annotate curated news.book 1
   compact OLD NEW                makes a file that begins with the state of the project

@@ -121,6 +121,7 @@ fn looks_for_faults(job: &Option<Job<'_>>) -> bool
 /// | `export BOOK WHO NAME` | | the committed layer as .ann lines |
 /// | `columns-out BOOK WHO NAME` | | the committed layer as token and label columns |
 /// | `agree BOOK` | | both tables of agreement, with an empty line between |
+/// | `scores BOOK` | | the exact-match scores of each two annotators |
 /// | `curated BOOK NUMBER` | | the curated layer of a snapshot as .ann lines |
 /// | `compact BOOK MADE` | another file becomes a journal that begins with the state of the project | `place 2` |
 /// | `verify CONF TEXT ANN` | three files are read | how many annotations of each sort the last one has |
