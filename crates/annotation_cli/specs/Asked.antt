@@ -25,6 +25,7 @@ pub data Command : Type 0 where
   Try : (conf text : List ℕ) → Command
   Verify : (conf text ann : List ℕ) → Command
   ColumnsIn : (conf text columns : List ℕ) → Command
+  Demo : (number : ℕ) → Command
   Session : (book : List ℕ) → Command
   Compact : (book made : List ℕ) → Command
   OnBook : BookCommand → Command
@@ -57,12 +58,17 @@ level_of number = if nat_lt number 255 then Some number else None
 abbrev pub alone : (name : List ℕ) → Option Command
 alone name = if bytes_eq name (codes "--help") then Some Help else None
 
+-- the session of this number
+abbrev pub demo_of : Option ℕ → Option Command
+demo_of number = option_map Demo number
+
 -- commands of one word more
 abbrev pub with_one : (name a : List ℕ) → Option Command
 with_one name a =
     if bytes_eq name (codes "session") then Some (Session a)
     else if bytes_eq name (codes "agree") then Some (OnBook (Agree a))
-    else if bytes_eq name (codes "scores") then Some (OnBook (Scores a)) else None
+    else if bytes_eq name (codes "scores") then Some (OnBook (Scores a))
+    else if bytes_eq name (codes "demo") then demo_of (number_read a) else None
 
 -- the curated layer of a snapshot of this number
 abbrev pub curated_of : (book : List ℕ) → Option ℕ → Option Command
@@ -147,6 +153,7 @@ command_in job.Help = Help
 command_in (job.Try conf text) = Try conf.now text.now
 command_in (job.Verify conf text ann) = Verify conf.now text.now ann.now
 command_in (job.ColumnsIn conf text columns) = ColumnsIn conf.now text.now columns.now
+command_in (job.Demo number) = Demo number
 command_in (job.Session book) = Session book.now
 command_in (job.Compact book made) = Compact book.now made.now
 command_in (job.Book it) = OnBook (book_command_in it)

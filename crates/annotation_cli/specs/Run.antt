@@ -7,13 +7,14 @@ use Rattle.program_inputs.specs.Troubles.{Ends}
 use Rattle.annotation_cli.specs.Commands.Trying.{TryTold}
 use Rattle.annotation_cli.specs.Help.{HelpTold}
 use Rattle.annotation_cli.specs.Printing.{Prints}
+use Rattle.demo_project.specs.Demos.{DemoTold}
 use Rattle.annotation_cli.specs.Founding.{Founds, NotFounded}
 use Rattle.annotation_cli.specs.Adding.{Adds, NotAdded}
 use Rattle.annotation_cli.specs.Importing.{Imports, NotImported}
 use Rattle.annotation_cli.specs.Showing.{Agrees, Exports, NoSnapshot, NotAgreed, NotExported, ShowsSnapshot}
 use Rattle.annotation_cli.specs.Scoring.{NotScored, PrintsScores}
 use Rattle.annotation_cli.specs.Sessions.{SessionTold}
-use Rattle.annotation_cli.specs.Asked.{BookCommand, Found, Add, Import, Export, ColumnsOut, Agree, Scores, Curated, Command, Help, Try, Verify, ColumnsIn, Compact, Session, OnBook, IsFileIn, command_of}
+use Rattle.annotation_cli.specs.Asked.{BookCommand, Found, Add, Import, Export, ColumnsOut, Agree, Scores, Curated, Command, Help, Try, Verify, ColumnsIn, Compact, Demo, Session, OnBook, IsFileIn, command_of}
 use Rattle.annotation_cli.specs.ColumnsIn.{ColumnsTold}
 use Rattle.annotation_cli.specs.ColumnsOut.{NoColumns, PrintsColumns}
 use Rattle.annotation_cli.specs.Compacting.{Compacts, NotCompacted}
@@ -65,6 +66,13 @@ pub record ShowsCompact (book made : List ℕ) (old new : Told) (done : Result (
   pub prints : Prints found old.held new.held done
   pub unread : new.left ≡ old.left
 
+-- what the session of a number came to was printed, or there was no memory for it; the console is not read
+pub record ShowsDemo (number : ℕ) (old new : Told) (done : Result (Unit {0}) Trouble) : Type 0 where
+  pub found : Result (List ℕ) Trouble
+  pub finds : MatchResult found (DemoTold number) (λ why. why ≡ Memory)
+  pub prints : Prints found old.held new.held done
+  pub unread : new.left ≡ old.left
+
 -- what the command of the words came to; but for `try` and `session` the console is not read
 abbrev pub Does : (file : List ℕ → Option (Option (List ℕ))) → Option Command → (faultless : Type 0) → (old new : Told) → Result (Unit {0}) Trouble → Type 0
 Does file None faultless old new done = IsNoCommand old new done
@@ -74,6 +82,7 @@ Does file (Some (Verify conf text ann)) faultless old new done =
     VerifyTold (file conf) (file text) (file ann) old.folder_faults new.folder_faults old.held new.held done × (new.left ≡ old.left)
 Does file (Some (ColumnsIn conf text columns)) faultless old new done =
     ColumnsTold (file conf) (file text) (file columns) old.folder_faults new.folder_faults old.held new.held done × (new.left ≡ old.left)
+Does file (Some (Demo number)) faultless old new done = ShowsDemo number old new done
 Does file (Some (Session book)) faultless old new done = SessionTold faultless (reads_as old.stored book) (reads_as new.stored book) old.left new.left old.held new.held done
 Does file (Some (Compact book made)) faultless old new done = ShowsCompact book made old new done
 Does file (Some (OnBook command)) faultless old new done = Shows file command old new done

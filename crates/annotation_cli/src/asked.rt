@@ -2,7 +2,7 @@
 ghost use Rattle.std.specs.Prelude.{◌≡◌, ◌||◌, false, true, is_none, map, option_and_then, option_map, string_bytes, IfNone, IfOk, IfSome};
 ghost use Rattle.std.specs.Str.{all_ascii_digits};
 ghost use Rattle.mark_base.specs.Names.{slug_fault};
-ghost use Rattle.annotation_cli.specs.Asked.{add_of, alone, columns_of, command_in, command_of, compact_of, export_of, found_at, has_hyphen, import_of, is_slug, level_of, number_read, unless_hyphens, with_four, with_one, with_three, with_two};
+ghost use Rattle.annotation_cli.specs.Asked.{add_of, alone, columns_of, command_in, command_of, compact_of, demo_of, export_of, found_at, has_hyphen, import_of, is_slug, level_of, number_read, unless_hyphens, with_four, with_one, with_three, with_two};
 
 use mark_base::{Memory, NameFault, Slug};
 use std::alloc::Global;
@@ -79,6 +79,10 @@ pub(crate) enum Job<'w> {
         conf: &'w str,
         text: &'w str,
         columns: &'w str,
+    },
+    /// The session of a number with a project in memory, summed up.
+    Demo {
+        number: u32,
     },
     /// The project of a file, served on the console.
     Session {
@@ -177,6 +181,16 @@ fn alone<'w>(name: &str) -> Option<Job<'w>>
     }
 }
 
+/// The session of a number, where a word spells one.
+fn demo_of<'w>(number: &str) -> Option<Job<'w>>
+    ensures { option_map command_in result ≡ demo_of (number_read number.now) }
+{
+    match number_read(number) {
+        Some(number) => Some(Job::Demo { number }),
+        None => None,
+    }
+}
+
 /// The job of a command's name and one word more.
 fn with_one<'w>(name: &str, a: &'w str) -> Option<Job<'w>>
     ensures { option_map command_in result ≡ with_one name.now a.now }
@@ -189,6 +203,9 @@ fn with_one<'w>(name: &str, a: &'w str) -> Option<Job<'w>>
     }
     if name == "scores" {
         return Some(Job::Book(BookJob::Scores { book: a }));
+    }
+    if name == "demo" {
+        return demo_of(a);
     }
     None
 }

@@ -35,6 +35,8 @@ BOOK is the file of a project. Each other file is only read.
       annotate curated news.book 1
   compact OLD NEW                makes a file that begins with the state of the project
       annotate compact news.book news.new
+  demo NUMBER                    makes a project of forty texts in memory, serves its requests, and sums it up
+      annotate demo 7
   verify CONF TEXT ANN           judges an .ann file, and counts what it has
       annotate verify news.conf rome.txt rome.ann
   columns-in CONF TEXT COLUMNS   prints the layer of a column file as .ann lines

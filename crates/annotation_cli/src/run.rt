@@ -1,7 +1,8 @@
 //! The top call.
-ghost use Rattle.std.specs.Prelude.{◌≡◌, ◌≢◌, ◌<◌, ◌⊎◌, ℕ, List, map, option_map, string_bytes, IfErr, IsErrOf, None};
+ghost use Rattle.std.specs.Prelude.{◌≡◌, ◌≢◌, ◌<◌, ◌⊎◌, ℕ, List, map, option_map, string_bytes, IfErr, IsErrOf, MatchResult, None};
 ghost use Rattle.mark_base.specs.Streams.{Rose, TellsFault};
 ghost use Rattle.named_disks.specs.NamedDisks.{IsIn};
+ghost use Rattle.demo_project.specs.Demos.{DemoTold};
 ghost use Rattle.annotation_cli.specs.Asked.{NamesTwo, command_in, command_of};
 ghost use Rattle.annotation_cli.specs.Run.{Does, KeepsBut, Runs, looks_for_faults};
 
@@ -12,12 +13,21 @@ use crate::finding::find;
 use crate::verify::verify;
 use crate::world::World;
 use crate::{compact, help_text, print_found, serve_session};
-use mark_base::{Link, Memory, Sink, Steps};
+use demo_project::demo;
+use mark_base::{Bytes, Link, Memory, Sink, Steps};
 use named_disks::Disks;
 use program_inputs::{Folder, Trouble, end_run};
 use std::alloc::Global;
 use std::marker::Brand;
 use std::sync::ledger::{Blank, Ledger};
+
+/// What the session of a number came to, as lines.
+fn demo_lines<G: Ledger>(alloc: Global, number: u32, steps: &mut Steps<G>) -> Result<Bytes, Trouble>
+    ensures { MatchResult result (DemoTold number) (λ why. why ≡ Trouble.Memory) }
+{
+    let lines = demo(alloc, number, steps)?;
+    Ok(lines)
+}
 
 /// Does a job.
 fn perform<F: Folder, C: Link, D: Disks, G: Ledger>(
@@ -56,6 +66,10 @@ fn perform<F: Folder, C: Link, D: Disks, G: Ledger>(
                 columns,
             },
         ) => columns_in(alloc, conf, text, columns, folder, console),
+        Some(Job::Demo { number }) => {
+            let found = demo_lines(alloc, number, steps);
+            print_found(console, found)
+        }
         Some(Job::Session { book }) => serve_session(alloc, book, disks, console, steps),
         Some(Job::Compact { book, made }) => {
             let found = compact(alloc, book, made, disks);
@@ -124,6 +138,7 @@ fn looks_for_faults(job: &Option<Job<'_>>) -> bool
 /// | `scores BOOK` | | the exact-match scores of each two annotators |
 /// | `curated BOOK NUMBER` | | the curated layer of a snapshot as .ann lines |
 /// | `compact BOOK MADE` | another file becomes a journal that begins with the state of the project | `place 2` |
+/// | `demo NUMBER` | a project in memory is founded and served 36,642 requests that follow from the number, as one connection | the summary |
 /// | `verify CONF TEXT ANN` | three files are read | how many annotations of each sort the last one has |
 /// | `columns-in CONF TEXT COLUMNS` | three files are read | the layer of a column file as .ann lines |
 ///
