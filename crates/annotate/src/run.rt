@@ -6,7 +6,7 @@ ghost use Rattle.annotate.specs.Serving.{Serves, serving_of};
 
 use crate::serving::{Serving, serving_of, trouble_of};
 use annotation_cli::World;
-use annotation_cli::run::run as run_alone;
+use annotation_cli::run::run_alone;
 use mark_base::{Link, Sink};
 use named_disks::Disks;
 use program_inputs::{Folder, end_run};
@@ -39,7 +39,7 @@ fn serve<R: Threads + Wait + Sync, P: Sink, D: Disks, O: Doors>(
 ///
 /// `serve BOOK PORT` opens the project of a file and serves the connections that come in at a port of this machine, up to
 /// eight at a time, until the port gives no more; a fault of one connection ends that one alone. All other words are those
-/// of [`annotation_cli::run::run`], with its statuses. 5 comes also where the port is not had or fails, by `door: Failed`.
+/// of [`annotation_cli::run::run_alone`], with its statuses. 5 comes also where the port is not had or fails, by `door: Failed`.
 /// Of these calls `serve` alone may wait.
 pub fn run<R: Threads + Wait + Sync, F: Folder, C: Link, P: Sink, D: Disks, O: Doors>(
     rt: &R,

@@ -1,6 +1,6 @@
 //! What the program `annotate` does: the words of a command, the files that they name, and the console.
 //!
-//! [`run`](run::run) is the top call. It is generic over what it reaches, a [`World`] of a folder, a console, a sink for
+//! [`run_alone`](run::run_alone) is the top call. It is generic over what it reaches, a [`World`] of a folder, a console, a sink for
 //! complaints and disks by name, so that its contract speaks of their bytes. The program gives it the real
 //! world; a world in memory, with a [`MemoryFolder`], shows what a run does with given bytes:
 //!
@@ -11,7 +11,7 @@
 //!     complaint: MemorySink::new(alloc, Vec::new(alloc)),
 //!     disks: MemoryDisks::new(alloc, Vec::new(alloc), Vec::new(alloc)),
 //! };
-//! let status = run(alloc, &words, &mut world);
+//! let status = run_alone(alloc, &words, &mut world);
 //! ```
 //!
 //! The commands that work on the project of a file are calls by themselves. What they find is bytes, which [`print_found`] writes:

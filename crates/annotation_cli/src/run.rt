@@ -153,7 +153,7 @@ fn looks_for_faults(job: &Option<Job<'_>>) -> bool
 ///
 /// At every status but 0 the complaint sink has one line that names the cause; where a write of it fails,
 /// the status is 6, and the sink has a front of the line. No disk may be out.
-pub fn run<F: Folder, C: Link, P: Sink, D: Disks>(
+pub fn run_alone<F: Folder, C: Link, P: Sink, D: Disks>(
     alloc: Global,
     words: &[String],
     world: &mut World<F, C, P, D>,

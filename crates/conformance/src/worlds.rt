@@ -5,7 +5,7 @@ ghost use Rattle.named_disks.specs.NamedDisks.{IsIn};
 use crate::malformed::Malformed;
 use crate::prepared::{First, Left, Prepared};
 use annotation_cli::World;
-use annotation_cli::run::run;
+use annotation_cli::run::run_alone;
 use mark_base::{Bytes, Memory, MemoryLink, MemorySink, Text};
 use named_disks::{Disks, MemoryDisks};
 use program_inputs::MemoryFolder;
@@ -32,7 +32,7 @@ impl Site {
     ) -> u8 {
         self.world.console = console;
         self.world.complaint = complaint;
-        run(alloc, words, &mut self.world)
+        run_alone(alloc, words, &mut self.world)
     }
 
     /// What the last run left.

@@ -3,6 +3,7 @@ ghost use Rattle.std.specs.Prelude.{◌≡◌, ◌≤◌, [], None, IfSome};
 ghost use Rattle.project_machine.specs.Legal.{IsLegal};
 
 use crate::links::talk::{Talk, talk_of};
+use crate::links::turns::serve_turns;
 use annotation_http::{Start, serve_link};
 use case_books::roster_of;
 use case_desks::conf_of;
@@ -112,6 +113,9 @@ fn run_in<G: Ledger>(
     };
     book.keeps();
     let mut visitor = Alone::new(book);
+    if case.has("turns") {
+        return serve_turns(alloc, case, &mut visitor, steps);
+    }
     serve_all(alloc, case, &mut visitor, pieces, steps)
 }
 

@@ -3,7 +3,7 @@ use Rattle.program_inputs.specs.declared.trouble.Trouble.TheVariants.{Memory}
 use Rattle.program_inputs.proofs.Troubles.{not_err}
 use Rattle.annotation_cli.specs.Asked.{NamesTwo}
 use Rattle.annotation_cli.proofs.TwoLemmas.{names_two}
-use Rattle.annotation_cli.proofs.run.run.Goals as goal
+use Rattle.annotation_cli.proofs.run.run_alone.Goals as goal
 
 pub returns-in-Err-clause-told : goal.returns-in-Err-clause-told
 returns-in-Err-clause-told g c = record { done = Err Memory; does = inr (refl, refl, refl); ends = c.end_run.ensures.told }
