@@ -33,6 +33,17 @@ bob,cid,0,0,0,0,undefined
 
 units,values,top,bottom,alpha
 5,10,10810800,23783760,0.4545' agree news.book
+expect 'first,second,sort,both,first_only,second_only,top,bottom,score
+ann,bob,spans,2,0,2,4,6,0.6666
+ann,bob,events,0,0,1,0,1,0.0000
+ann,bob,relations,0,0,1,0,1,0.0000
+ann,cid,spans,0,0,0,0,0,undefined
+ann,cid,events,0,0,0,0,0,undefined
+ann,cid,relations,0,0,0,0,0,undefined
+bob,cid,spans,0,0,0,0,0,undefined
+bob,cid,events,0,0,0,0,0,undefined
+bob,cid,relations,0,0,0,0,0,undefined' scores news.book
+expect $'Ann\tB-Person\nmet\tO\nBob\tB-Person\nin\tO\nRome\tO' columns-out news.book ann rome
 "$annotate" session news.book <"$here/curate.http" >/dev/null
 expect $'T1\tPerson 0 3\tAnn\nT2\tPerson 8 11\tBob\nT3\tLocation 15 19\tRome' curated news.book 1
 [[ "$("$annotate" compact news.book news.new)" =~ ^place\ [0-9]+$ ]]
