@@ -7,7 +7,21 @@ use serve_command::Door;
 use std::io::{Read, Write};
 use std::net::OpenListener;
 
-/// A port that is listened at. It has no end; a connection that the system does not give is a fault.
+/// How often a connection is asked for before that is a fault. A client that is gone before it is accepted, say, costs one.
+const ASKED: u32 = 1000;
+
+/// The next connection of a port, where the system gives one.
+fn accepted<L: OpenListener>(listener: &L) -> Option<L::Stream> {
+    for _ in 0..ASKED {
+        if let Ok((stream, _)) = listener.accept() {
+            return Some(stream);
+        }
+    }
+    None
+}
+
+/// A port that is listened at. It has no end; a connection that the system does not give, however often it is asked, is
+/// a fault.
 #[derive(Drop)]
 pub struct TcpDoor<L> {
     listener: L,
@@ -39,9 +53,9 @@ where
     ghost endless = { ⊤ };
 
     fn next(&mut self) -> Result<Option<TcpLink<L::Stream>>, Failed> {
-        match self.listener.accept() {
-            Ok((stream, _)) => Ok(Some(TcpLink::new(stream))),
-            Err(_) => {
+        match accepted(&self.listener) {
+            Some(stream) => Ok(Some(TcpLink::new(stream))),
+            None => {
                 self.faults = self.faults.saturating_add(1);
                 Err(Failed)
             }
