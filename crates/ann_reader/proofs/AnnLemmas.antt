@@ -10,11 +10,11 @@ use Rattle.mark_base.specs.declared.ann_id.AnnId.{AnnId}
 use Rattle.annotation_conf.specs.Configurations.{Configuration}
 use Rattle.layer_model.specs.Annotations.{Annotations, no_marks}
 use Rattle.layer_model.specs.Layers.{has, mark_at}
-use Rattle.layer_core.specs.PairRules.{is_id}
+use Rattle.layer_core.specs.LayerRules.{is_id}
 use Rattle.ann_reader.specs.Lines.{Line, is_blank, lines_from}
 use Rattle.ann_reader.specs.LineForms.{Form, BadForm, TextForm, EventForm, RelationForm, AttributeForm, ClassForm, NormalForm, NoteForm, form_of}
 use Rattle.ann_reader.specs.References.{references, own_word, own_id, is_own_misspelt, is_misspelt}
-use Rattle.ann_reader.specs.Marks.{said_of}
+use Rattle.ann_reader.specs.LineMeanings.{said_of}
 use Rattle.ann_reader.specs.LineFaults.{is_headed, headed_by, is_twice, line_fault, first_line_fault, count_like}
 use Rattle.ann_reader.specs.AnnFaults.{with_line, layer_of}
 use Rattle.ann_reader.specs.AnnFiles.{HasMark, is_line_of, is_span_word}

@@ -8,13 +8,13 @@ use Rattle.annotation_conf.specs.Configurations.{Configuration}
 use Rattle.layer_model.specs.declared.class.Class.{Class}
 use Rattle.layer_model.specs.Annotations.{Annotations}
 use Rattle.layer_model.specs.Classes.{apart, comes_before, insert_class, joined_class, shares}
-use Rattle.ann_reader.specs.declared.marks.Said.{Said as SaidValue}
+use Rattle.ann_reader.specs.declared.line_meaning.Said.{Said as SaidValue}
 use Rattle.ann_reader.specs.NamesRead.{relation_read}
 use Rattle.mark_base.specs.ReadIds.{id_read}
 use Rattle.ann_reader.specs.Words.{all_of}
 use Rattle.ann_reader.specs.LineForms.{Form, BadForm, TextForm, EventForm, RelationForm, AttributeForm, ClassForm, NormalForm, NoteForm}
 use Rattle.ann_reader.specs.References.{own_id}
-use Rattle.ann_reader.specs.Marks.{Said, mark_of, said_of, said_by}
+use Rattle.ann_reader.specs.LineMeanings.{Said, mark_of, said_of, said_by}
 use Rattle.ann_reader.specs.AnnFaults.{with_read, with_said, with_form}
 use Rattle.ann_reader.specs.FormShows.{NamesSome, seen_said}
 use Rattle.ann_reader.proofs.SaidLemmas.{read_classes}

@@ -14,8 +14,8 @@ use Rattle.layer_model.specs.declared.mark.Mark.TheVariants as sort
 use Rattle.layer_model.specs.declared.rule.Rule.{Rule}
 use Rattle.layer_model.specs.declared.rule.Rule.TheVariants.{UnknownType, NotForUse, UnknownRole, UnknownValue}
 use Rattle.layer_model.specs.Coherent.{is_span_letter}
-use Rattle.layer_core.specs.CommandFields.{Valued, Undeclared, Declared, value_refused}
-use Rattle.layer_core.specs.Rules.{where_so, Wanted, first_unwanted}
+use Rattle.layer_core.specs.CommandRules.{Valued, Undeclared, Declared, value_refused}
+use Rattle.layer_core.specs.MarkRules.{where_so, Wanted, first_unwanted}
 use Rattle.ann_reader.specs.declared.ann_fault.AnnWhat.TheVariants.{BadLine, BadId, IdTwice, Broken}
 use Rattle.ann_reader.specs.Roles.{role_read}
 use Rattle.ann_reader.specs.Lines.{Line}
@@ -24,7 +24,7 @@ use Rattle.ann_reader.specs.Words.{all_of}
 use Rattle.ann_reader.specs.NamesRead.{type_read, event_read, relation_read, attribute_read, value_read}
 use Rattle.ann_reader.specs.LineForms.{Pair, Form, BadForm, TextForm, EventForm, RelationForm, AttributeForm, ClassForm, NormalForm, NoteForm, form_of}
 use Rattle.ann_reader.specs.References.{Reference, references, may_stand, of_letters, own_word, own_id, is_own_misspelt, is_misspelt, has_no_letter}
-use Rattle.ann_reader.specs.Marks.{arg_of, args_of, arg_by, Ends, ends_of, is_role, span_by, event_by, relation_by, attribute_by, normal_by, mark_of, said_of, said_by}
+use Rattle.ann_reader.specs.LineMeanings.{arg_of, args_of, arg_by, Ends, ends_of, is_role, span_by, event_by, relation_by, attribute_by, normal_by, mark_of, said_of, said_by}
 use Rattle.ann_reader.specs.LineFaults.{is_bad_line, has_bad_id, is_twice, has_unknown_type, has_barred_type, first_absent, first_unfit, wanted_of, has_unknown_role, has_unknown_value, line_rule, line_fault, naming_rule, value_rule}
 use Rattle.ann_reader.specs.AnnFiles.{is_span_word}
 use Rattle.ann_reader.specs.declared.id_letters.Letters.{Letters}

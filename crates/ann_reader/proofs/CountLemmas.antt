@@ -14,12 +14,12 @@ use Rattle.layer_model.specs.declared.mark.Mark.{Mark}
 use Rattle.layer_model.specs.declared.mark.Mark.TheVariants as marked
 use Rattle.layer_model.specs.Annotations.{Annotations, no_marks}
 use Rattle.layer_model.specs.Layers.{has, has_number, is_of_kind, with_marked, with_mark}
-use Rattle.layer_core.specs.PairRules.{counted_letter}
+use Rattle.layer_core.specs.LayerRules.{counted_letter}
 use Rattle.ann_reader.specs.Lines.{Line}
 use Rattle.mark_base.specs.AnnIds.{kind_read}
 use Rattle.ann_reader.specs.LineForms.{Form, BadForm, TextForm, EventForm, RelationForm, AttributeForm, ClassForm, NormalForm, NoteForm, form_of}
 use Rattle.ann_reader.specs.References.{own_id, own_word}
-use Rattle.ann_reader.specs.Marks.{Said, mark_of as mark_said, said_of}
+use Rattle.ann_reader.specs.LineMeanings.{Said, mark_of as mark_said, said_of}
 use Rattle.ann_reader.specs.LineFaults.{counted_byte}
 use Rattle.ann_reader.specs.AnnFaults.{with_read, with_said, with_line, layer_of}
 use Rattle.ann_reader.proofs.AnnLemmas.{AllClean, Below, Rises, is_new, own_spelt, raise, below_push}

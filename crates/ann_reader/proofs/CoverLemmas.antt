@@ -11,7 +11,7 @@ use Rattle.layer_model.specs.Classes.{rank, has_rank, is_among, ascending, comes
 use Rattle.layer_model.proofs.IdSets.{has_rank-ascending}
 use Rattle.ann_reader.specs.Lines.{Line}
 use Rattle.ann_reader.specs.LineForms.{form_of}
-use Rattle.ann_reader.specs.Marks.{Said, said_of}
+use Rattle.ann_reader.specs.LineMeanings.{Said, said_of}
 use Rattle.ann_reader.specs.AnnFiles.{said_in, joined_too, classes_of}
 
 -- the class is of the type and has all of the members

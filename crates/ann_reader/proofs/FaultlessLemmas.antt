@@ -13,7 +13,7 @@ use Rattle.layer_model.specs.declared.rule.Rule.{Rule}
 use Rattle.layer_model.specs.declared.rule.Rule.TheVariants.{UnknownType, NotForUse, UnknownRole, UnknownValue, BadText}
 use Rattle.layer_model.specs.Annotations.{Annotations}
 use Rattle.layer_model.specs.Layers.{IsLayer, has}
-use Rattle.layer_core.specs.Rules.{where_so}
+use Rattle.layer_core.specs.MarkRules.{where_so}
 use Rattle.layer_core.specs.WellFormed.{least_flaw}
 use Rattle.layer_core.proofs.LawLemmas.{well_formed_is_unflawed}
 use Rattle.ann_reader.specs.declared.ann_fault.AnnWhat.TheVariants.{Broken}

@@ -9,7 +9,7 @@ use Rattle.layer_core.specs.WellFormed.{IsWellFormed}
 use Rattle.ann_reader.specs.Lines.{Line}
 use Rattle.ann_reader.specs.LineForms.{Form, BadForm, TextForm, EventForm, RelationForm, AttributeForm, ClassForm, NormalForm, NoteForm, form_of}
 use Rattle.ann_reader.specs.References.{references, has_no_letter, is_misspelt, is_own_misspelt}
-use Rattle.ann_reader.specs.Marks.{Said, said_of}
+use Rattle.ann_reader.specs.LineMeanings.{Said, said_of}
 use Rattle.ann_reader.specs.LineFaults.{is_formless, is_nameless, is_twice}
 use Rattle.ann_reader.specs.AnnFiles.{Spells}
 use Rattle.ann_reader.proofs.AnnLemmas.{AllClean}

@@ -13,7 +13,7 @@ use Rattle.layer_model.specs.Annotations.{Annotations}
 use Rattle.layer_model.specs.Classes.{rank, is_among}
 use Rattle.layer_model.specs.Layers.{has, has_number}
 use Rattle.layer_model.specs.Coherent.{IsCoherent, AllStand as AllThere, is_span_letter}
-use Rattle.layer_core.specs.Rules.{class_not_for_use}
+use Rattle.layer_core.specs.MarkRules.{class_not_for_use}
 use Rattle.layer_core.specs.WellFormed.{IsWellFormed}
 use Rattle.mark_base.specs.ReadIds.{id_read}
 use Rattle.ann_reader.specs.Words.{all_of}

@@ -19,7 +19,7 @@ use Rattle.mark_base.specs.ReadIds.{id_read}
 use Rattle.ann_reader.specs.LineForms.{Pair, Form, EventForm, RelationForm, AttributeForm, NormalForm, NoteForm}
 use Rattle.ann_reader.specs.declared.id_letters.Letters.TheVariants.{SpansOrEvents}
 use Rattle.ann_reader.specs.References.{references, of_letters}
-use Rattle.ann_reader.specs.Marks.{arg_by, arg_of, args_of, Ends, ends_of, is_role}
+use Rattle.ann_reader.specs.LineMeanings.{arg_by, arg_of, args_of, Ends, ends_of, is_role}
 use Rattle.ann_reader.specs.AnnFiles.{HasMark, is_span_word}
 use Rattle.ann_reader.proofs.CleanLemmas.{not_some, unsome}
 use Rattle.ann_reader.proofs.PartLemmas.{made, chained, event_parts, relation_parts, attribute_parts, normal_parts, note_parts}

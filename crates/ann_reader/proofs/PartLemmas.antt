@@ -10,12 +10,12 @@ use Rattle.mark_base.specs.Names.{name_fault}
 use Rattle.annotation_conf.specs.Configurations.{Configuration}
 use Rattle.layer_model.specs.declared.mark.Mark.{Mark}
 use Rattle.layer_model.specs.declared.mark.Mark.TheVariants as marked
-use Rattle.layer_core.specs.CommandFields.{Valued, Undeclared, Declared}
+use Rattle.layer_core.specs.CommandRules.{Valued, Undeclared, Declared}
 use Rattle.ann_reader.specs.NamesRead.{type_read, event_read, relation_read, attribute_read, value_read}
 use Rattle.mark_base.specs.ReadIds.{id_read}
 use Rattle.ann_reader.specs.Words.{all_of}
 use Rattle.ann_reader.specs.LineForms.{Pair, TextForm, EventForm, RelationForm, AttributeForm, ClassForm, NormalForm, NoteForm}
-use Rattle.ann_reader.specs.Marks.{args_of, Ends, ends_of, event_by, relation_by, attribute_by, mark_of, said_of, said_by}
+use Rattle.ann_reader.specs.LineMeanings.{args_of, Ends, ends_of, event_by, relation_by, attribute_by, mark_of, said_of, said_by}
 use Rattle.ann_reader.proofs.CleanLemmas.{not_some, unsome}
 
 -- ---- what is made of what is found

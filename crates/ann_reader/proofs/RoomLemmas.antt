@@ -24,7 +24,7 @@ use Rattle.layer_model.specs.Layers.{IsLayer, mark_at, mark_of}
 use Rattle.layer_model.specs.Numbers.{NumbersFit}
 use Rattle.mark_base.specs.ReadIds.{id_at}
 use Rattle.layer_model.specs.LayerIds.{id_place}
-use Rattle.layer_core.specs.PairRules.{counted_letter, counted_with, is_id, layer_full}
+use Rattle.layer_core.specs.LayerRules.{counted_letter, counted_with, is_id, layer_full}
 use Rattle.layer_core.specs.WellFormed.{IsWellFormed}
 use Rattle.layer_core.proofs.PlaceLemmas.{entries_found}
 use Rattle.ann_reader.specs.Lines.{Line}

@@ -21,18 +21,18 @@ use Rattle.layer_model.specs.declared.rule.Rule.TheVariants.{NotForUse, UnknownV
 use Rattle.layer_model.specs.Annotations.{Annotations}
 use Rattle.layer_model.specs.Layers.{mark_at}
 use Rattle.layer_model.specs.Coherent.{IsCoherent}
-use Rattle.layer_core.specs.CommandFields.{value_refused}
+use Rattle.layer_core.specs.CommandRules.{value_refused}
 use Rattle.layer_core.specs.FlawPlaces.{by_place}
-use Rattle.layer_core.specs.Rules.{is_barred_type, not_for_use, class_not_for_use, is_bad_value, unknown_value}
-use Rattle.layer_core.specs.PairRules.{bad_text}
-use Rattle.layer_core.specs.SpanRules.{is_bad_text, is_bad_store, is_bad_entry}
+use Rattle.layer_core.specs.MarkRules.{is_barred_type, not_for_use, class_not_for_use, is_bad_value, unknown_value}
+use Rattle.layer_core.specs.LayerRules.{bad_text}
+use Rattle.layer_core.specs.BadTexts.{is_bad_text, is_bad_store, is_bad_entry}
 use Rattle.layer_core.specs.WellFormed.{IsWellFormed, Never, no_class}
 use Rattle.ann_reader.specs.Roles.{role_read}
 use Rattle.ann_reader.specs.NamesRead.{value_read}
 use Rattle.mark_base.specs.ReadIds.{id_read}
 use Rattle.ann_reader.specs.LineForms.{Pair, Form, TextForm, EventForm, RelationForm, AttributeForm, ClassForm, NormalForm, NoteForm}
 use Rattle.ann_reader.specs.References.{references, is_own_misspelt}
-use Rattle.ann_reader.specs.Marks.{arg_by, arg_of, args_of, ends_of}
+use Rattle.ann_reader.specs.LineMeanings.{arg_by, arg_of, args_of, ends_of}
 use Rattle.ann_reader.specs.LineFaults.{is_formless, is_nameless, has_unknown_type, has_barred_type, has_unknown_role, has_unknown_value, has_bad_text}
 use Rattle.ann_reader.specs.AnnFiles.{HasMark, is_span_word}
 use Rattle.ann_reader.proofs.CleanLemmas.{not_some}

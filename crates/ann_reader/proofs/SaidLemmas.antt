@@ -13,11 +13,11 @@ use Rattle.layer_model.specs.declared.mark.Mark.{Mark}
 use Rattle.layer_model.specs.Annotations.{Annotations, no_marks}
 use Rattle.layer_model.specs.Classes.{joined, rank}
 use Rattle.layer_model.specs.Layers.{has, has_number, is_of_kind, mark_at, mark_of, with_mark}
-use Rattle.layer_core.specs.PairRules.{is_id}
+use Rattle.layer_core.specs.LayerRules.{is_id}
 use Rattle.ann_reader.specs.Lines.{Line}
 use Rattle.ann_reader.specs.LineForms.{form_of}
 use Rattle.ann_reader.specs.References.{own_id}
-use Rattle.ann_reader.specs.Marks.{Said, mark_of as mark_said, said_of}
+use Rattle.ann_reader.specs.LineMeanings.{Said, mark_of as mark_said, said_of}
 use Rattle.ann_reader.specs.AnnFaults.{with_read, with_said, with_line}
 use Rattle.ann_reader.specs.AnnFiles.{is_line_of, said_in, joined_too}
 use Rattle.ann_reader.proofs.HeldLemmas.{stands_here, stands_still, came_from, classes_stay, marks_stay, numbers_stay}

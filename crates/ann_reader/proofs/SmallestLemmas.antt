@@ -13,7 +13,7 @@ use Rattle.layer_model.proofs.ClassOrder.{All-insert, All-filter}
 use Rattle.layer_model.proofs.IdSets.{has_rank-ascending}
 use Rattle.ann_reader.specs.Lines.{Line, lines_of}
 use Rattle.ann_reader.specs.LineForms.{form_of}
-use Rattle.ann_reader.specs.Marks.{Said, said_of}
+use Rattle.ann_reader.specs.LineMeanings.{Said, said_of}
 use Rattle.ann_reader.specs.AnnFiles.{IsAnn, said_in, joined_too, classes_of}
 use Rattle.ann_reader.specs.Smallest.{holds_line, Leads, AreLinked, IsLinkedClass}
 use Rattle.ann_reader.proofs.CoverLemmas.{Covered, all_covered}

@@ -16,12 +16,12 @@ use Rattle.layer_model.specs.declared.rule.Rule.{Rule}
 use Rattle.layer_model.specs.declared.rule.Rule.TheVariants.{BadFragments, OutOfText}
 use Rattle.layer_model.specs.Annotations.{Annotations}
 use Rattle.layer_model.specs.Layers.{mark_at}
-use Rattle.layer_core.specs.Rules.{where_so, bad_fragments, out_of_text}
-use Rattle.layer_core.specs.SpanRules.{are_fragments}
+use Rattle.layer_core.specs.MarkRules.{where_so, bad_fragments, out_of_text}
+use Rattle.layer_core.specs.BadTexts.{are_fragments}
 use Rattle.layer_core.specs.WellFormed.{IsWellFormed}
 use Rattle.ann_reader.specs.NamesRead.{type_read}
 use Rattle.ann_reader.specs.LineForms.{TextForm}
-use Rattle.ann_reader.specs.Marks.{mark_of, span_by}
+use Rattle.ann_reader.specs.LineMeanings.{mark_of, span_by}
 use Rattle.ann_reader.specs.AnnFaults.{as_space, differing, text_differs}
 use Rattle.ann_reader.specs.AnnFiles.{HasMark}
 use Rattle.ann_reader.proofs.CleanLemmas.{not_some}

@@ -12,13 +12,13 @@ use Rattle.layer_model.specs.Annotations.{Annotations}
 use Rattle.layer_model.specs.Classes.{joined}
 use Rattle.layer_model.specs.Coherent.{is_span_letter}
 use Rattle.layer_model.specs.Layers.{has, has_number, mark_at}
-use Rattle.layer_core.specs.PairRules.{is_id}
+use Rattle.layer_core.specs.LayerRules.{is_id}
 use Rattle.layer_core.specs.WellFormed.{IsWellFormed}
 use Rattle.ann_reader.specs.Lines.{Line, lines_of}
 use Rattle.mark_base.specs.ReadIds.{id_read}
 use Rattle.ann_reader.specs.LineForms.{Form, BadForm, TextForm, EventForm, RelationForm, AttributeForm, ClassForm, NormalForm, NoteForm, form_of}
 use Rattle.ann_reader.specs.References.{own_id}
-use Rattle.ann_reader.specs.Marks.{Said, mark_of, said_of}
+use Rattle.ann_reader.specs.LineMeanings.{Said, mark_of, said_of}
 use Rattle.ann_reader.specs.LineFaults.{is_twice}
 use Rattle.ann_reader.specs.AnnFaults.{as_space}
 

@@ -6,12 +6,12 @@ use Rattle.ann_reader.specs.declared.line_form.Form.TheVariants as value
 use Rattle.ann_reader.specs.declared.references.Reference.{Reference as ReferenceValue}
 use Rattle.ann_reader.specs.declared.declared_names.Value.{Value}
 use Rattle.ann_reader.specs.declared.declared_names.Value.TheVariants as given
-use Rattle.layer_core.specs.CommandFields.{Valued, Undeclared, Declared}
+use Rattle.layer_core.specs.CommandRules.{Valued, Undeclared, Declared}
 use Rattle.ann_reader.specs.LineForms.{Pair, Form, BadForm, TextForm, EventForm, RelationForm, AttributeForm, ClassForm, NormalForm, NoteForm}
 use Rattle.ann_reader.specs.References.{Reference}
-use Rattle.ann_reader.specs.declared.marks.Ends.{Ends as EndsValue}
-use Rattle.ann_reader.specs.declared.marks.Said.{Said as SaidValue}
-use Rattle.ann_reader.specs.Marks.{Ends, Said}
+use Rattle.ann_reader.specs.declared.line_meaning.Ends.{Ends as EndsValue}
+use Rattle.ann_reader.specs.declared.line_meaning.Said.{Said as SaidValue}
+use Rattle.ann_reader.specs.LineMeanings.{Ends, Said}
 use denote.Ref.{Bor}
 
 -- a text

@@ -9,7 +9,7 @@ pub mod LineFaults
 pub mod LineShows
 pub mod LineTypes
 pub mod Lines
-pub mod Marks
+pub mod LineMeanings
 pub mod NamesRead
 pub mod PlainTexts
 pub mod ReadFaults

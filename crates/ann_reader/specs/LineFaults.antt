@@ -8,10 +8,10 @@ use Rattle.annotation_conf.specs.Configurations.{Configuration}
 use Rattle.annotation_conf.specs.Lookups.{is_equivalence, values_of}
 use Rattle.layer_model.specs.declared.rule.Rule.{Rule}
 use Rattle.layer_model.specs.declared.rule.Rule.TheVariants.{UnknownType, NotForUse, NoSuch, UnknownRole, UnknownValue, BadText, LayerFull}
-use Rattle.layer_core.specs.CommandFields.{value_refused}
-use Rattle.layer_core.specs.PairRules.{counted_letter, is_id}
-use Rattle.layer_core.specs.Rules.{where_so, is_barred_type, Wanted, first_unwanted}
-use Rattle.layer_core.specs.SpanRules.{is_bad_text, is_bad_store, is_bad_entry}
+use Rattle.layer_core.specs.CommandRules.{value_refused}
+use Rattle.layer_core.specs.LayerRules.{counted_letter, is_id}
+use Rattle.layer_core.specs.MarkRules.{where_so, is_barred_type, Wanted, first_unwanted}
+use Rattle.layer_core.specs.BadTexts.{is_bad_text, is_bad_store, is_bad_entry}
 use Rattle.layer_core.specs.LowestFlaw.{first_of}
 use Rattle.ann_reader.specs.declared.ann_fault.AnnWhat.{AnnWhat}
 use Rattle.ann_reader.specs.declared.ann_fault.AnnWhat.TheVariants.{BadLine, BadId, IdTwice, Broken}
@@ -22,7 +22,7 @@ use Rattle.mark_base.specs.ReadIds.{id_read}
 use Rattle.mark_base.specs.AnnIds.{kind_read}
 use Rattle.ann_reader.specs.LineForms.{Form, BadForm, TextForm, EventForm, RelationForm, AttributeForm, ClassForm, NormalForm, NoteForm, form_of, head_field}
 use Rattle.ann_reader.specs.References.{Reference, references, own_id, is_own_misspelt, has_no_letter, is_misspelt, may_stand}
-use Rattle.ann_reader.specs.Marks.{ends_of}
+use Rattle.ann_reader.specs.LineMeanings.{ends_of}
 
 -- ---- form and IDs
 

@@ -3,7 +3,7 @@ use Rattle.std.specs.Prelude.{◌≡◌, ℕ, ◌<◌, ◌==◌, ◌&&◌, Bool,
 use Rattle.std.specs.List.{AllByRecursion, Contains, list_all}
 use Rattle.layer_model.specs.declared.class.Class.{Class}
 use Rattle.layer_model.specs.Classes.{has_rank, is_among}
-use Rattle.ann_reader.specs.Marks.{Said}
+use Rattle.ann_reader.specs.LineMeanings.{Said}
 
 -- the class is of the type of a line, and has all of the line's members
 abbrev pub holds_line : Said → Class → Bool

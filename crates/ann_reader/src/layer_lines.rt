@@ -7,7 +7,7 @@ ghost use Rattle.layer_model.specs.Layers.{is_of_kind};
 
 use crate::declared_names::LineTypes;
 use crate::line_form::Form;
-use crate::marks::{Said, mark_of, said_of};
+use crate::line_meaning::{Said, mark_of, said_of};
 use crate::references::own_id;
 use annotation_conf::Conf;
 use layer_model::{Layer, Mark};

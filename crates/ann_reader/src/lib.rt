@@ -14,7 +14,7 @@ mod line;
 mod line_counts;
 mod line_fault;
 mod line_form;
-mod marks;
+mod line_meaning;
 mod normalization_line;
 mod note_line;
 mod pairs;

@@ -3,9 +3,9 @@ ghost use Rattle.std.specs.Prelude.{◌≡◌, IfOk, IfSome, is_none, is_some, l
 ghost use Rattle.std.specs.List.{list_any};
 ghost use Rattle.mark_base.specs.Names.{name_fault};
 ghost use Rattle.annotation_conf.specs.Lookups.{values_of};
-ghost use Rattle.layer_core.specs.CommandFields.{value_refused};
-ghost use Rattle.layer_core.specs.PairRules.{counted_letter};
-ghost use Rattle.layer_core.specs.Rules.{is_barred_type};
+ghost use Rattle.layer_core.specs.CommandRules.{value_refused};
+ghost use Rattle.layer_core.specs.LayerRules.{counted_letter};
+ghost use Rattle.layer_core.specs.MarkRules.{is_barred_type};
 ghost use Rattle.std.specs.Option.{option_map_or};
 ghost use Rattle.std.specs.Prelude.{false};
 ghost use Rattle.ann_reader.specs.Roles.{role_read};
@@ -21,7 +21,7 @@ use crate::declared_names::{LineTypes, Value, value_read};
 use crate::known_lines::KnownLines;
 use crate::line::Line;
 use crate::line_form::{Form, Pair};
-use crate::marks::ends_of;
+use crate::line_meaning::ends_of;
 use crate::references::{
     Reference, is_own_misspelt, may_stand, own_id, references, some_misspelt, some_without_letter,
 };

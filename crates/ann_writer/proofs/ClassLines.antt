@@ -17,7 +17,7 @@ use Rattle.layer_model.specs.declared.flaw.FlawPlace.TheVariants as at
 use Rattle.layer_model.specs.Annotations.{Annotations}
 use Rattle.layer_model.specs.Classes.{rank, has_rank, is_among, with_id, ascending, Ascends, least_of, comes_before, insert_class, shares, sharing, apart, joined, IsClass, Precedes, AreClasses}
 use Rattle.layer_model.proofs.ClassOrder.{insert_class-last}
-use Rattle.layer_core.specs.Rules.{where_so, unknown_class}
+use Rattle.layer_core.specs.MarkRules.{where_so, unknown_class}
 use Rattle.layer_model.specs.declared.rule.Rule.{Rule}
 use Rattle.ann_reader.specs.Lines.{is_blank}
 use Rattle.mark_base.specs.ReadIds.{id_read}
@@ -26,7 +26,7 @@ use Rattle.ann_reader.specs.LineForms.{Form, ClassForm, form_of, head_field}
 use Rattle.ann_reader.specs.LineFaults.{is_formless}
 use Rattle.ann_reader.proofs.FormFacts.{head_same}
 use Rattle.ann_reader.specs.References.{own_id}
-use Rattle.ann_reader.specs.Marks.{Said, said_by, said_of}
+use Rattle.ann_reader.specs.LineMeanings.{Said, said_by, said_of}
 use Rattle.ann_reader.specs.AnnFiles.{Spells, joined_too, classes_of}
 use Rattle.ann_writer.specs.Words.{id_word}
 use Rattle.ann_writer.proofs.PlainWords.{IsPlain, name_plain}

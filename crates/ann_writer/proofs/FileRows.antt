@@ -19,13 +19,13 @@ use Rattle.layer_model.specs.Annotations.{Annotations}
 use Rattle.layer_model.specs.Classes.{rank, letter_place}
 use Rattle.layer_model.specs.Numbers.{NumbersFit}
 use Rattle.mark_base.specs.ReadIds.{id_at, id_read}
-use Rattle.layer_core.specs.PairRules.{is_id}
+use Rattle.layer_core.specs.LayerRules.{is_id}
 use Rattle.layer_core.proofs.PlaceLemmas.{along, is_less, left, right}
 use Rattle.ann_reader.specs.Lines as file
 use Rattle.ann_reader.specs.Lines.{Line, is_blank, lines_from}
 use Rattle.ann_reader.specs.LineForms.{form_of, head_field}
 use Rattle.ann_reader.specs.References.{own_id}
-use Rattle.ann_reader.specs.Marks.{Said, said_of}
+use Rattle.ann_reader.specs.LineMeanings.{Said, said_of}
 use Rattle.ann_reader.specs.LineFaults.{is_headed, headed_by, is_twice}
 use Rattle.ann_reader.specs.AnnFiles.{Spells, is_line_of, said_in}
 

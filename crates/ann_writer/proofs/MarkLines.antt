@@ -41,10 +41,10 @@ use Rattle.layer_model.specs.Layers.{mark_of as marked_of}
 use Rattle.layer_model.specs.Numbers.{NumbersFit}
 use Rattle.mark_base.specs.ReadIds.{id_at, id_read}
 use Rattle.layer_core.specs.FlawPlaces.{by_place}
-use Rattle.layer_core.specs.Rules.{where_so, unknown_type, unknown_class, bad_fragments, unknown_value, is_bad_value}
-use Rattle.layer_core.specs.PairRules.{bad_text}
-use Rattle.layer_core.specs.SpanRules.{are_fragments, is_bad_text, is_bad_store, is_bad_entry}
-use Rattle.layer_core.specs.CommandFields.{Declared}
+use Rattle.layer_core.specs.MarkRules.{where_so, unknown_type, unknown_class, bad_fragments, unknown_value, is_bad_value}
+use Rattle.layer_core.specs.LayerRules.{bad_text}
+use Rattle.layer_core.specs.BadTexts.{are_fragments, is_bad_text, is_bad_store, is_bad_entry}
+use Rattle.layer_core.specs.CommandRules.{Declared}
 use Rattle.layer_core.specs.Targets.{is_event_type}
 use Rattle.layer_core.specs.WellFormed.{IsWellFormed, Never, no_class}
 use Rattle.layer_core.proofs.PlaceLemmas.{at_entry}
@@ -53,7 +53,7 @@ use Rattle.ann_reader.specs.LineForms.{Form, TextForm, EventForm, RelationForm, 
 use Rattle.ann_reader.specs.LineForms as forms
 use Rattle.ann_reader.specs.References.{own_word, own_id}
 use Rattle.ann_reader.specs.NamesRead.{value_read}
-use Rattle.ann_reader.specs.Marks.{mark_of, said_of, event_by, args_of, relation_by, ends_of, Ends, is_role, attribute_by}
+use Rattle.ann_reader.specs.LineMeanings.{mark_of, said_of, event_by, args_of, relation_by, ends_of, Ends, is_role, attribute_by}
 use Rattle.ann_reader.specs.AnnFiles.{HasMark, Spells}
 use Rattle.ann_writer.specs.Words.{id_word, frags_word, pair_word, argument_words, words_behind}
 use Rattle.ann_writer.specs.AnnOf.{relation_role_at, attribute_name_at, value_name_at, value_words}

@@ -15,10 +15,10 @@ use Rattle.annotation_conf.specs.Lookups.{relation_named, relation_role, attribu
 use Rattle.annotation_conf.specs.Sound.{IsSound, IsName, IsRole, AreRoles, IsRelation, IsAttribute}
 use Rattle.annotation_conf.proofs.Written.{IsWord}
 use Rattle.annotation_conf.specs.ConfFaults.{stands_twice}
-use Rattle.layer_core.specs.CommandFields.{Undeclared, Declared}
+use Rattle.layer_core.specs.CommandRules.{Undeclared, Declared}
 use Rattle.layer_core.specs.Targets.{is_event_type}
 use Rattle.ann_reader.specs.NamesRead.{by_name, type_read, where_event, event_read, relation_read, attribute_read, value_read}
-use Rattle.ann_reader.specs.Marks.{is_role}
+use Rattle.ann_reader.specs.LineMeanings.{is_role}
 use Rattle.ann_writer.specs.AnnOf.{relation_role_at, attribute_name_at, value_name_at}
 use Rattle.ann_writer.specs.Words.{role_name_at}
 use Rattle.ann_writer.proofs.FragWords.{map_same}

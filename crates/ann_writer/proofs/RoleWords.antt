@@ -14,10 +14,10 @@ use Rattle.annotation_conf.specs.Lookups.{roles_of, role_named}
 use Rattle.annotation_conf.specs.Sound.{IsSound, IsRole}
 use Rattle.annotation_conf.proofs.Written.{IsWord}
 use Rattle.annotation_conf.proofs.WrittenLists.{none-append}
-use Rattle.layer_core.specs.Rules.{filled}
+use Rattle.layer_core.specs.MarkRules.{filled}
 use Rattle.ann_reader.specs.Roles.{role_read, role_before, role_before_number, digit_counts}
 use Rattle.ann_reader.specs.LineForms.{Pair, pairs_read}
-use Rattle.ann_reader.specs.Marks.{arg_by, args_of}
+use Rattle.ann_reader.specs.LineMeanings.{arg_by, args_of}
 use Rattle.ann_writer.specs.Words.{argument_words, id_word, pair_word, reads_as, role_name_at, role_spelling}
 use Rattle.ann_writer.proofs.ConfWords.{are_roles, equal_words, is_word}
 use Rattle.ann_writer.proofs.NameFacts.{role_facts}

@@ -26,7 +26,7 @@ use Rattle.layer_model.specs.Annotations.{Annotations}
 use Rattle.layer_model.specs.Layers.{IsLayer, has_number}
 use Rattle.layer_model.specs.Numbers.{NumbersFit}
 use Rattle.mark_base.specs.ReadIds.{id_at}
-use Rattle.layer_core.specs.PairRules.{is_id}
+use Rattle.layer_core.specs.LayerRules.{is_id}
 use Rattle.layer_core.specs.WellFormed.{IsWellFormed}
 use Rattle.layer_core.proofs.PlaceLemmas.{entries_found}
 use Rattle.ann_reader.specs.Lines as file

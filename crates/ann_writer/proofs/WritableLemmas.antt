@@ -18,8 +18,8 @@ use Rattle.layer_model.specs.declared.flaw.FlawPlace.TheVariants as at
 use Rattle.layer_model.specs.Annotations.{Annotations}
 use Rattle.layer_model.specs.Layers.{IsLayer}
 use Rattle.mark_base.specs.ReadIds.{id_at}
-use Rattle.layer_core.specs.Rules.{where_so, bad_fragments, out_of_text, unknown_role}
-use Rattle.layer_core.specs.SpanRules.{are_fragments}
+use Rattle.layer_core.specs.MarkRules.{where_so, bad_fragments, out_of_text, unknown_role}
+use Rattle.layer_core.specs.BadTexts.{are_fragments}
 use Rattle.layer_core.specs.WellFormed.{IsWellFormed, no_class}
 use Rattle.layer_core.proofs.PlaceLemmas.{along, at_entry, entries_found}
 use Rattle.ann_writer.specs.Writable.{IsWritable}

@@ -30,7 +30,7 @@ use Rattle.layer_model.specs.declared.normal.Normal.{Normal}
 use Rattle.layer_model.specs.declared.note.Note.{Note}
 use Rattle.layer_model.specs.declared.class.Class.{Class}
 use Rattle.layer_model.specs.Annotations.{Annotations}
-use Rattle.layer_core.specs.Rules.{filled}
+use Rattle.layer_core.specs.MarkRules.{filled}
 use Rattle.layer_core.proofs.PlaceLemmas.{entries_found}
 use Rattle.ann_writer.specs.Words.{id_word, pair_word, frag_word, frags_word, reads_as, role_name_at, role_spelling, argument_words, words_behind, line_of, line_with_text}
 use Rattle.ann_writer.specs.AnnOf.{span_line, event_line, relation_role_at, relation_line, class_line, attribute_name_at, value_name_at, value_words, attribute_line, normal_line, note_line, lines_of, ann_of}

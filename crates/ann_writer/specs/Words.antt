@@ -8,7 +8,7 @@ use Rattle.mark_base.specs.declared.fragments.Frag.{Frag}
 use Rattle.mark_base.specs.AnnIds.{spelling_of}
 use Rattle.annotation_conf.specs.Configurations.{Configuration}
 use Rattle.annotation_conf.specs.Lookups.{role_name}
-use Rattle.layer_core.specs.Rules.{filled}
+use Rattle.layer_core.specs.MarkRules.{filled}
 use Rattle.ann_reader.specs.Roles.{role_read}
 
 -- an ID

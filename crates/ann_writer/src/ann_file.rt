@@ -10,8 +10,8 @@ ghost use Rattle.ann_writer.specs.AnnOf.{ann_of, class_line};
 ghost use Rattle.ann_writer.specs.Writable.{HasTexts, IsWritable};
 
 use crate::WriteAnn;
+use crate::letter_lines::{Attributes, Page, push_all};
 use crate::lines::push_class;
-use crate::marks::{Attributes, Page, push_all};
 use annotation_conf::Conf;
 use char_documents::Doc;
 use layer_model::{Class, Layer};

@@ -14,8 +14,8 @@
 mod ann_file;
 mod arguments;
 mod laws;
+mod letter_lines;
 mod lines;
-mod marks;
 mod words;
 mod write_fault;
 

@@ -8,8 +8,8 @@
 
 mod commands;
 mod layers;
-mod shown;
+mod script_texts;
 
 pub use crate::commands::script_of;
 pub use crate::layers::{conf_of, doc_of, layer_of, layer_text};
-pub use crate::shown::script_text;
+pub use crate::script_texts::script_text;

@@ -22,6 +22,7 @@ mod asked;
 mod asking;
 mod case;
 mod case_fault;
+mod command_texts;
 mod cut;
 mod edit;
 mod edits;
@@ -30,7 +31,6 @@ mod figures;
 mod person;
 mod quoting;
 mod report;
-mod shown;
 mod texts;
 mod words;
 
@@ -38,14 +38,14 @@ pub use crate::asked::Asked;
 pub use crate::asking::asked_of;
 pub use crate::case::{Case, Section, cases_of};
 pub use crate::case_fault::{CaseFault, CaseWhat};
+pub use crate::command_texts::{
+    counted, event_text, id_text, move_text, note_text, retype_text, span_text, with_id,
+};
 pub use crate::edit::{Edit, Edits};
 pub use crate::exchange::{Exchange, exchanges_of};
 pub use crate::figures::{Figure, figure_text};
 pub use crate::person::people_of;
 pub use crate::quoting::quoted;
 pub use crate::report::Report;
-pub use crate::shown::{
-    counted, event_text, id_text, move_text, note_text, retype_text, span_text, with_id,
-};
 pub use crate::texts::Texts;
 pub use crate::words::{WordList, Words};

@@ -18,7 +18,7 @@ use Rattle.layer_model.specs.Annotations.{Annotations}
 use Rattle.layer_model.specs.Classes.{Precedes, joined, rank}
 use Rattle.layer_model.specs.Coherent.{AllStand, IsCoherent, is_span_letter}
 use Rattle.layer_model.specs.Layers.{IsLayer, has, has_number, mark_of}
-use Rattle.layer_core.specs.PairRules.{counted_with}
+use Rattle.layer_core.specs.LayerRules.{counted_with}
 use Rattle.layer_core.specs.WellFormed.{IsWellFormed, Obeys}
 use Rattle.content_keys.specs.Nodes.{IsIn}
 use Rattle.content_keys.specs.LayerContents.{class_content, content_of, node_of_mark}

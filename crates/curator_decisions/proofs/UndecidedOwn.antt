@@ -25,8 +25,8 @@ use Rattle.layer_model.specs.Annotations.{Annotations}
 use Rattle.layer_model.specs.Coherent.{named, trigger_id}
 use Rattle.layer_model.specs.Layers.{has, mark_at, mark_of}
 use Rattle.layer_core.specs.FlawPlaces.{by_place}
-use Rattle.layer_core.specs.Rules.{Wanted, argument, argument_type, bad_fragments, class_not_for_use, filled, first_missing, first_unwanted, is_refused_argument, member, named_by, not_for_use, out_of_text, relation_types, span_too_long, too_many, trigger, unknown_class, unknown_role, unknown_type, unknown_value, wanted_by, where_so}
-use Rattle.layer_core.specs.PairRules.{bad_text}
+use Rattle.layer_core.specs.MarkRules.{Wanted, argument, argument_type, bad_fragments, class_not_for_use, filled, first_missing, first_unwanted, is_refused_argument, member, named_by, not_for_use, out_of_text, relation_types, span_too_long, too_many, trigger, unknown_class, unknown_role, unknown_type, unknown_value, wanted_by, where_so}
+use Rattle.layer_core.specs.LayerRules.{bad_text}
 use Rattle.layer_core.specs.Targets.{is_argument, is_attribute_target, is_member, is_normal_target, is_note_target, is_trigger, target_by, target_of, type_by, type_of}
 use Rattle.layer_core.specs.WellFormed.{Never, at_argument_type, at_bad_fragments, at_bad_text, at_no_such, at_not_for_use, at_out_of_text, at_span_too_long, at_too_many, at_unknown_role, at_unknown_type, at_unknown_value, at_wrong_kind, no_class}
 use Rattle.content_keys.specs.Nodes.{IsIn}

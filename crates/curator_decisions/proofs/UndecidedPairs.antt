@@ -27,8 +27,8 @@ use Rattle.layer_model.specs.Coherent.{named, trigger_id}
 use Rattle.layer_model.specs.Layers.{mark_at, mark_of}
 use Rattle.layer_model.specs.LayerIds.{ids_of}
 use Rattle.layer_core.specs.FlawPlaces.{by_place}
-use Rattle.layer_core.specs.Rules.{where_so}
-use Rattle.layer_core.specs.PairRules.{are_bad_members, begins_longer_chain, equiv_members, is_arg, is_event_id, is_id, letter_is_event, lower_pair, may_be_equal, refused_overlap, same_attributes, same_bag, same_events, same_relations, same_spans, too_deep}
+use Rattle.layer_core.specs.MarkRules.{where_so}
+use Rattle.layer_core.specs.LayerRules.{are_bad_members, begins_longer_chain, equiv_members, is_arg, is_event_id, is_id, letter_is_event, lower_pair, may_be_equal, refused_overlap, same_attributes, same_bag, same_events, same_relations, same_spans, too_deep}
 use Rattle.layer_core.specs.Targets.{type_of}
 use Rattle.layer_core.specs.WellFormed.{Never, at_attribute_there, at_equiv_members, at_overlap_refused, at_same_event, at_same_relation, at_same_span, at_too_deep, commit_fault, first_told, no_class, too_few, too_few_of}
 use Rattle.content_keys.specs.Nodes.{IsIn}

@@ -23,7 +23,7 @@ use Rattle.layer_model.specs.Coherent.{named, trigger_id}
 use Rattle.layer_model.specs.Layers.{has_number, mark_at, mark_of, numbers}
 use Rattle.layer_model.specs.LayerIds.{ids_of, ids_of_letter}
 use Rattle.layer_core.specs.FlawPlaces.{by_place}
-use Rattle.layer_core.specs.Rules.{named_by, where_so}
+use Rattle.layer_core.specs.MarkRules.{named_by, where_so}
 use Rattle.layer_core.specs.WellFormed.{Never}
 use Rattle.content_keys.specs.Nodes.{IsIn}
 use Rattle.content_keys.proofs.BagLemmas.{IsIn-map, IsIn-left, IsIn-right, map_map}

@@ -10,8 +10,8 @@ use Rattle.layer_model.specs.declared.mark.Mark.{Mark}
 use Rattle.layer_model.specs.declared.rule.Rule.TheVariants.{LayerFull}
 use Rattle.layer_model.specs.declared.flaw.FlawPlace.TheVariants as at
 use Rattle.layer_model.specs.Annotations.{Annotations}
-use Rattle.layer_core.specs.Rules.{where_so}
-use Rattle.layer_core.specs.PairRules.{classes_full, counted_letter, counted_with, is_id, layer_full}
+use Rattle.layer_core.specs.MarkRules.{where_so}
+use Rattle.layer_core.specs.LayerRules.{classes_full, counted_letter, counted_with, is_id, layer_full}
 use Rattle.layer_core.specs.WellFormed.{IsWellFormed, Never, Obeys, at_layer_full}
 use Rattle.curator_decisions.proofs.UndecidedPart.{ClassOrigin, IsPart, none_some, so_none}
 use Rattle.curator_decisions.proofs.UndecidedOwn.{arguments_carry, counts_carry, ends_carry, fragments_carry, kinds_carry, names_carry, reaches_carry, roles_carry, texts_carry, types_carry, use_carries, values_carry}

@@ -48,20 +48,12 @@ pub(crate) fn entries_in(
     Ok(entries)
 }
 
-/// The place of a letter.
+/// The place of a letter among T, E, R, A, M, N and #, from 0, as an index.
 fn letter_place(kind: Kind) -> usize
     ensures place { result ≡ letter_place kind }
     ensures small { result < 7 }
 {
-    match kind {
-        Kind::Text => 0,
-        Kind::Event => 1,
-        Kind::Relation => 2,
-        Kind::Attribute => 3,
-        Kind::Legacy => 4,
-        Kind::Normal => 5,
-        Kind::Note => 6,
-    }
+    usize::from(layer_model::letter_place(kind))
 }
 
 /// The letter under which a curated layer has an annotation: A stands for M.
@@ -80,7 +72,7 @@ fn id_at(kind: Kind, number: u64) -> AnnId
 {
     AnnId {
         kind,
-        number: number.min(999_999_999) as u32,
+        number: number.min(u64::from(AnnId::GREATEST)) as u32,
     }
 }
 

@@ -19,6 +19,7 @@ pub use crate::answer_bodies::json_body::{
     docs_answer, number_answer, out_answer, snapped_answer, truth_answer,
 };
 pub use crate::answer_bodies::message_fault::MessageFault;
+pub(crate) use crate::answer_bodies::refusals::rule_status;
 pub use crate::answer_bodies::refusals::{book_refusal, refusal_name};
 pub use crate::answer_bodies::worked_answers::{
     examples_of_figures, examples_of_inner_refusals, examples_of_message_faults,

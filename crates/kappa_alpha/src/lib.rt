@@ -35,8 +35,8 @@ mod shift;
 mod tables;
 mod tallies;
 mod weight;
-mod worked;
+mod worked_rows;
 
+pub use crate::worked_rows::worked_figures;
 pub use figures::{AlphaLine, Fraction, PairLine};
 pub use tables::Tables;
-pub use worked::worked_figures;

@@ -14,7 +14,7 @@ use Rattle.mark_base.specs.declared.arguments.Arg.{Arg}
 use Rattle.layer_model.specs.declared.event.Event.{Event}
 use Rattle.layer_model.specs.Annotations.{Annotations}
 use Rattle.layer_model.proofs.Maps.{inserted, same_list}
-use Rattle.layer_core.specs.PairRules.{begins_longer_chain, is_event_id}
+use Rattle.layer_core.specs.LayerRules.{begins_longer_chain, is_event_id}
 use Rattle.layer_core.specs.EventChains.{HoldsChains, is_held}
 use Rattle.layer_core.proofs.PlaceLemmas.{entries_found}
 

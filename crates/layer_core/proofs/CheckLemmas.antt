@@ -13,8 +13,8 @@ use Rattle.layer_model.specs.Annotations.{Annotations}
 use Rattle.layer_model.specs.Layers.{IsLayer}
 use Rattle.mark_base.specs.ReadIds.{id_at}
 use Rattle.layer_core.specs.FlawPlaces.{first_place, first_rule, places}
-use Rattle.layer_core.specs.Rules.{where_so, unknown_type, unknown_class, bad_fragments, span_too_long}
-use Rattle.layer_core.specs.SpanRules.{are_fragments}
+use Rattle.layer_core.specs.MarkRules.{where_so, unknown_type, unknown_class, bad_fragments, span_too_long}
+use Rattle.layer_core.specs.BadTexts.{are_fragments}
 use Rattle.layer_core.specs.WellFormed.{least_flaw, no_class}
 use Rattle.layer_core.specs.LowestFlaw.{HasGoodSpans, later_rules, single_rules}
 use Rattle.layer_core.proofs.FlawLemmas.{or_assoc}

@@ -35,8 +35,8 @@ use Rattle.mark_base.specs.ReadIds.{id_at}
 use Rattle.layer_model.specs.LayerIds.{ids_of}
 use Rattle.layer_core.specs.FlawPlaces.{by_place, first_place}
 use Rattle.layer_core.specs.Targets.{is_argument, is_attribute_target, is_member, is_normal_target, is_note_target}
-use Rattle.layer_core.specs.Rules.{where_so, named_by, first_missing, Wanted, argument, member, first_unwanted, wanted_by}
-use Rattle.layer_core.specs.PairRules.{begins_longer_chain, is_arg, is_event_id, letter_is_event, lower_pair, same_attributes, same_bag, same_events, same_relations, same_spans, attribute_there, too_deep}
+use Rattle.layer_core.specs.MarkRules.{where_so, named_by, first_missing, Wanted, argument, member, first_unwanted, wanted_by}
+use Rattle.layer_core.specs.LayerRules.{begins_longer_chain, is_arg, is_event_id, letter_is_event, lower_pair, same_attributes, same_bag, same_events, same_relations, same_spans, attribute_there, too_deep}
 use Rattle.layer_core.specs.WellFormed.{IsWellFormed, Never}
 use Rattle.mark_base.proofs.IdLemmas.{id_at-id}
 use Rattle.layer_core.proofs.LawLemmas.{never}

@@ -5,7 +5,7 @@ use Rattle.annotation_conf.specs.Configurations.{Configuration}
 use Rattle.layer_model.specs.declared.rule.Rule.{Rule}
 use Rattle.layer_model.specs.declared.flaw.Flaw.{Flaw}
 use Rattle.layer_model.specs.Annotations.{Annotations}
-use Rattle.layer_model.specs.Rules.{number_of}
+use Rattle.layer_model.specs.RuleNumbers.{number_of}
 use Rattle.layer_core.specs.declared.command.Command.{Command}
 use Rattle.layer_core.specs.WellFormed.{IsWellFormed, least_flaw}
 use Rattle.layer_core.specs.MadeLayers.{Draft, draft}

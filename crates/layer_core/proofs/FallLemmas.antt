@@ -13,8 +13,8 @@ use Rattle.layer_model.specs.Classes.{letter_place, is_among, ascending}
 use Rattle.layer_model.specs.Layers.{mark_at, numbers}
 use Rattle.mark_base.specs.ReadIds.{id_at}
 use Rattle.layer_model.specs.LayerIds.{id_place, ids_of, ids_of_letter, letters}
-use Rattle.layer_core.specs.Rules.{named_by}
-use Rattle.layer_core.specs.PairRules.{is_id}
+use Rattle.layer_core.specs.MarkRules.{named_by}
+use Rattle.layer_core.specs.LayerRules.{is_id}
 use Rattle.layer_core.specs.MadeLayers.{falls, falls_by}
 use Rattle.layer_core.specs.Cascade.{falls_next, same_ids}
 use Rattle.std.proofs.lemmas.Bool.Decides.{nat_tests}

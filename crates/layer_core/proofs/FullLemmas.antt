@@ -21,8 +21,8 @@ use Rattle.layer_model.specs.Numbers.{NumbersFit}
 use Rattle.mark_base.specs.ReadIds.{id_at}
 use Rattle.layer_model.specs.LayerIds.{id_place, ids_of_letter}
 use Rattle.layer_core.specs.FlawPlaces.{first_place, places}
-use Rattle.layer_core.specs.Rules.{where_so}
-use Rattle.layer_core.specs.PairRules.{is_id, counted_letter, counted_with, layer_full, classes_full}
+use Rattle.layer_core.specs.MarkRules.{where_so}
+use Rattle.layer_core.specs.LayerRules.{is_id, counted_letter, counted_with, layer_full, classes_full}
 use Rattle.layer_core.specs.WellFormed.{at_layer_full}
 use Rattle.layer_core.specs.LowestFlaw.{first_among, first_from, flaw_at, full_at}
 use Rattle.layer_core.proofs.PlaceLemmas.{along, entries_found, places_of}

@@ -22,8 +22,8 @@ use Rattle.layer_model.specs.Layers.{mark_at, mark_of, numbers}
 use Rattle.mark_base.specs.ReadIds.{id_at}
 use Rattle.mark_base.proofs.IdLemmas.{id_at-id}
 use Rattle.layer_core.specs.FlawPlaces.{by_place, first_place, first_rule, places}
-use Rattle.layer_core.specs.Rules.{unknown_type, unknown_class, not_for_use, class_not_for_use, bad_fragments, out_of_text, span_too_long, named_by, first_missing, wanted_by, member, first_unwanted, unknown_role, argument_type, too_many, unknown_value}
-use Rattle.layer_core.specs.PairRules.{too_deep, same_span, same_event, same_relation, attribute_there, equiv_members, overlap_refused, bad_text, layer_full, classes_full}
+use Rattle.layer_core.specs.MarkRules.{unknown_type, unknown_class, not_for_use, class_not_for_use, bad_fragments, out_of_text, span_too_long, named_by, first_missing, wanted_by, member, first_unwanted, unknown_role, argument_type, too_many, unknown_value}
+use Rattle.layer_core.specs.LayerRules.{too_deep, same_span, same_event, same_relation, attribute_there, equiv_members, overlap_refused, bad_text, layer_full, classes_full}
 use Rattle.layer_core.specs.WellFormed.{no_class, Never, IsWellFormed, in_order, least_flaw}
 use Rattle.layer_core.specs.LowestFlaw.{flaw_at}
 use Rattle.layer_core.proofs.PlaceLemmas.{by_letters, class_places, places_of}

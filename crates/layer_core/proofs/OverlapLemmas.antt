@@ -36,8 +36,8 @@ use Rattle.layer_model.specs.Layers.{IsLayer}
 use Rattle.mark_base.specs.ReadIds.{id_at}
 use Rattle.layer_model.specs.LayerIds.{ids_of}
 use Rattle.layer_core.specs.FlawPlaces.{first_place, places}
-use Rattle.layer_core.specs.SpanRules.{are_fragments}
-use Rattle.layer_core.specs.PairRules.{overlap_refused, refused_overlap}
+use Rattle.layer_core.specs.BadTexts.{are_fragments}
+use Rattle.layer_core.specs.LayerRules.{overlap_refused, refused_overlap}
 use Rattle.layer_core.specs.WellFormed.{at_overlap_refused}
 use Rattle.layer_core.specs.LowestFlaw.{HasGoodSpans, flaw_at, refuses}
 use Rattle.layer_core.proofs.FlawLemmas.{or-None}

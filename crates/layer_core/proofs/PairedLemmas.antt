@@ -13,9 +13,9 @@ use Rattle.layer_model.specs.declared.mark.Mark.TheVariants as marked
 use Rattle.layer_model.specs.declared.span.Span.{Span}
 use Rattle.layer_model.specs.Annotations.{Annotations}
 use Rattle.layer_model.specs.Layers.{mark_at, mark_of}
-use Rattle.layer_core.specs.CommandFields.{is_span_letter}
+use Rattle.layer_core.specs.CommandRules.{is_span_letter}
 use Rattle.layer_core.specs.MadeLayers.{span_of}
-use Rattle.layer_core.specs.PairRules.{is_id, refused_overlap}
+use Rattle.layer_core.specs.LayerRules.{is_id, refused_overlap}
 use Rattle.layer_core.specs.Commands.{other_than}
 
 -- ---- the next of a list

@@ -14,13 +14,13 @@ use Rattle.layer_model.specs.declared.rule.Rule.TheVariants.{UnknownType, NotFor
 use Rattle.layer_model.specs.declared.rule.RoleAt.TheVariants as role
 use Rattle.layer_model.specs.declared.flaw.FlawPlace.{FlawPlace}
 use Rattle.layer_model.specs.declared.flaw.FlawPlace.TheVariants as at
-use Rattle.layer_model.specs.Rules.{number_of}
+use Rattle.layer_model.specs.RuleNumbers.{number_of}
 use Rattle.layer_model.specs.Annotations.{Annotations}
 use Rattle.layer_model.specs.Layers.{mark_at, has}
 use Rattle.layer_core.specs.Targets.{is_event_type, type_of, target_of}
-use Rattle.layer_core.specs.SpanRules.{are_fragments}
+use Rattle.layer_core.specs.BadTexts.{are_fragments}
 use Rattle.layer_core.specs.FlawPlaces.{by_place}
-use Rattle.layer_core.specs.Rules.{where_so, unknown_type, unknown_class, is_barred_type, not_for_use, class_not_for_use, bad_fragments, out_of_text, span_too_long, named_by, first_missing, wanted_by, member, first_unwanted, unknown_role, is_refused_argument, relation_types, argument_type, filled, too_many, is_bad_value, unknown_value}
+use Rattle.layer_core.specs.MarkRules.{where_so, unknown_type, unknown_class, is_barred_type, not_for_use, class_not_for_use, bad_fragments, out_of_text, span_too_long, named_by, first_missing, wanted_by, member, first_unwanted, unknown_role, is_refused_argument, relation_types, argument_type, filled, too_many, is_bad_value, unknown_value}
 use Rattle.layer_core.specs.WellFormed.{no_class, at_unknown_type, at_not_for_use, at_bad_fragments, at_out_of_text, at_span_too_long, at_no_such, at_wrong_kind, at_unknown_role, at_argument_type, at_too_many, at_unknown_value}
 
 -- what is told has the number

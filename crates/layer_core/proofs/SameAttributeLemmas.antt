@@ -15,7 +15,7 @@ use Rattle.layer_model.specs.declared.rule.Rule.{Rule}
 use Rattle.mark_base.specs.ReadIds.{id_at}
 use Rattle.layer_model.specs.LayerIds.{ids_of}
 use Rattle.layer_core.specs.FlawPlaces.{first_place, places}
-use Rattle.layer_core.specs.PairRules.{attribute_there, same_attributes}
+use Rattle.layer_core.specs.LayerRules.{attribute_there, same_attributes}
 use Rattle.layer_core.specs.WellFormed.{at_attribute_there}
 use Rattle.layer_core.specs.Repeats.{keyed, repeat_after, same_numbers, attribute_key}
 use Rattle.layer_core.specs.LowestFlaw.{first_among}

@@ -13,7 +13,7 @@ use Rattle.layer_model.specs.Layers.{IsLayer}
 use Rattle.layer_model.specs.Classes.{rank}
 use Rattle.layer_model.specs.LayerIds.{ids_of}
 use Rattle.layer_core.specs.FlawPlaces.{first_place, places}
-use Rattle.layer_core.specs.PairRules.{same_relation, same_relations}
+use Rattle.layer_core.specs.LayerRules.{same_relation, same_relations}
 use Rattle.layer_core.specs.WellFormed.{at_same_relation}
 use Rattle.layer_core.specs.Repeats.{keyed, repeat_after, same_numbers, relation_key}
 use Rattle.layer_core.proofs.FlawLemmas.{or-None}

@@ -15,7 +15,7 @@ use Rattle.layer_model.specs.Layers.{IsLayer}
 use Rattle.layer_model.specs.Span.{same_fragments}
 use Rattle.layer_model.specs.LayerIds.{ids_of}
 use Rattle.layer_core.specs.FlawPlaces.{first_place, places}
-use Rattle.layer_core.specs.PairRules.{same_span, same_spans}
+use Rattle.layer_core.specs.LayerRules.{same_span, same_spans}
 use Rattle.layer_core.specs.WellFormed.{at_same_span}
 use Rattle.layer_core.specs.Repeats.{keyed, frag_key, repeat_after, same_numbers, span_key}
 use Rattle.layer_core.proofs.FlawLemmas.{or-None}

@@ -15,12 +15,12 @@ use Rattle.layer_model.specs.declared.rule.Rule.{Rule}
 use Rattle.layer_model.specs.declared.flaw.Flaw.{Flaw}
 use Rattle.layer_model.specs.declared.flaw.FlawPlace.{FlawPlace}
 use Rattle.layer_model.specs.declared.flaw.FlawPlace.TheVariants as at
-use Rattle.layer_model.specs.Rules.{number_of}
+use Rattle.layer_model.specs.RuleNumbers.{number_of}
 use Rattle.layer_model.specs.Annotations.{Annotations}
 use Rattle.layer_model.specs.Layers.{IsLayer, mark_at, mark_of, numbers}
 use Rattle.mark_base.specs.ReadIds.{id_at}
 use Rattle.layer_core.specs.WellFormed.{no_class}
-use Rattle.layer_core.specs.Rules.{unknown_type, unknown_class, not_for_use, class_not_for_use, bad_fragments, out_of_text, span_too_long, named_by, first_missing, wanted_by, member, first_unwanted, unknown_role, argument_type, too_many, unknown_value}
+use Rattle.layer_core.specs.MarkRules.{unknown_type, unknown_class, not_for_use, class_not_for_use, bad_fragments, out_of_text, span_too_long, named_by, first_missing, wanted_by, member, first_unwanted, unknown_role, argument_type, too_many, unknown_value}
 use Rattle.layer_core.specs.FlawPlaces.{first_place, first_rule, places}
 use Rattle.layer_core.specs.LowestFlaw.{at_single, class_rule, flaw_at, lower_flaw, lowest_at, lowest_from, lowest_of, mark_rule, single_rules}
 use Rattle.layer_core.proofs.FlawLemmas.{lower-first, lower-second}

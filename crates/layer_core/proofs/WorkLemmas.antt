@@ -8,7 +8,7 @@ use Rattle.layer_model.specs.declared.rule.Rule.{Rule}
 use Rattle.layer_model.specs.declared.flaw.FlawPlace.TheVariants as at
 use Rattle.layer_model.specs.Annotations.{Annotations}
 use Rattle.layer_core.specs.declared.command.Command.{Command}
-use Rattle.layer_core.specs.PairRules.{classes_full}
+use Rattle.layer_core.specs.LayerRules.{classes_full}
 use Rattle.layer_core.specs.WellFormed.{IsWellFormed}
 use Rattle.layer_core.specs.MadeLayers.{Draft, draft}
 use Rattle.layer_core.specs.Commands.{Applied, answer_of, applied_of, apply, refusal}

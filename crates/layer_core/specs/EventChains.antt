@@ -3,7 +3,7 @@ use Rattle.std.specs.Prelude.{◌≡◌, ℕ, Bool, List, is_some}
 use Rattle.std.specs.Ordering.{nat_cmp}
 use Rattle.std.specs.FinMap as finite
 use Rattle.layer_model.specs.Annotations.{Annotations}
-use Rattle.layer_core.specs.PairRules.{begins_longer_chain}
+use Rattle.layer_core.specs.LayerRules.{begins_longer_chain}
 
 -- a number is among the entries of a map
 abbrev pub is_held : {V : Type 0} → List (ℕ × V) → ℕ → Bool

@@ -5,7 +5,7 @@ use Rattle.std.specs.FinMap as finite
 use Rattle.mark_base.specs.declared.ann_id.Kind.{Kind}
 use Rattle.overlap_rules.specs.Overlaps.{reach}
 use Rattle.layer_model.specs.declared.span.Span.{Span}
-use Rattle.layer_core.specs.SpanRules.{are_fragments}
+use Rattle.layer_core.specs.BadTexts.{are_fragments}
 use Rattle.mark_base.specs.declared.overlap.OvlKind.{OvlKind}
 use Rattle.mark_base.specs.declared.table_places.TypeId.{TypeId}
 use Rattle.annotation_conf.specs.Configurations.{Configuration}
@@ -17,12 +17,12 @@ use Rattle.layer_model.specs.declared.rule.Rule.TheVariants.{LayerFull}
 use Rattle.layer_model.specs.declared.flaw.Flaw.{Flaw}
 use Rattle.layer_model.specs.declared.flaw.FlawPlace.{FlawPlace}
 use Rattle.layer_model.specs.declared.flaw.FlawPlace.TheVariants as at
-use Rattle.layer_model.specs.Rules.{number_of}
+use Rattle.layer_model.specs.RuleNumbers.{number_of}
 use Rattle.layer_model.specs.Annotations.{Annotations}
 use Rattle.mark_base.specs.ReadIds.{id_at}
 use Rattle.layer_core.specs.FlawPlaces.{by_place}
 use Rattle.layer_core.specs.WellFormed.{at_unknown_type, at_not_for_use, at_bad_fragments, at_out_of_text, at_span_too_long, at_no_such, at_wrong_kind, at_unknown_role, at_argument_type, at_too_many, at_unknown_value, at_too_deep, at_same_span, at_same_event, at_same_relation, at_attribute_there, at_equiv_members, at_overlap_refused, at_bad_text, at_layer_full}
-use Rattle.layer_core.specs.Rules.{unknown_type, unknown_class, not_for_use, class_not_for_use, bad_fragments, out_of_text, span_too_long, named_by, first_missing, wanted_by, member, first_unwanted, unknown_role, argument_type, too_many, unknown_value}
+use Rattle.layer_core.specs.MarkRules.{unknown_type, unknown_class, not_for_use, class_not_for_use, bad_fragments, out_of_text, span_too_long, named_by, first_missing, wanted_by, member, first_unwanted, unknown_role, argument_type, too_many, unknown_value}
 
 -- the first of some rules that is broken
 abbrev pub first_of : List (Option Rule) → Option Rule

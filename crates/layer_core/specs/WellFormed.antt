@@ -16,8 +16,8 @@ use Rattle.layer_model.specs.declared.flaw.FlawPlace.{FlawPlace}
 use Rattle.layer_model.specs.Annotations.{Annotations}
 use Rattle.mark_base.specs.ReadIds.{id_at}
 use Rattle.layer_core.specs.FlawPlaces.{places, by_place, first_rule}
-use Rattle.layer_core.specs.Rules.{unknown_type, unknown_class, not_for_use, class_not_for_use, bad_fragments, out_of_text, span_too_long, named_by, first_missing, wanted_by, member, first_unwanted, unknown_role, argument_type, too_many, filled, unknown_value}
-use Rattle.layer_core.specs.PairRules.{too_deep, same_span, same_event, same_relation, attribute_there, equiv_members, overlap_refused, bad_text, layer_full, classes_full}
+use Rattle.layer_core.specs.MarkRules.{unknown_type, unknown_class, not_for_use, class_not_for_use, bad_fragments, out_of_text, span_too_long, named_by, first_missing, wanted_by, member, first_unwanted, unknown_role, argument_type, too_many, filled, unknown_value}
+use Rattle.layer_core.specs.LayerRules.{too_deep, same_span, same_event, same_relation, attribute_there, equiv_members, overlap_refused, bad_text, layer_full, classes_full}
 
 -- no class breaks the rule
 abbrev pub no_class : ℕ → Class → Option Rule

@@ -1,6 +1,6 @@
 //! The value that a command gives to an attribute.
 ghost use Rattle.std.specs.Prelude.{◌≡◌};
-ghost use Rattle.layer_core.specs.CommandFields.{has_value, value_of, value_refused};
+ghost use Rattle.layer_core.specs.CommandRules.{has_value, value_of, value_refused};
 ghost use Rattle.layer_core.specs.AttributeValue.{valued_of};
 
 use annotation_conf::Conf;

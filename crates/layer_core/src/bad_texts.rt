@@ -2,7 +2,7 @@
 ghost use Rattle.std.specs.Prelude.{◌≡◌, ◌||◌, ◌==◌, chars};
 ghost use Rattle.std.specs.Char.{is_whitespace};
 ghost use Rattle.std.specs.List.{list_any};
-ghost use Rattle.layer_core.specs.SpanRules.{is_bad_entry, is_bad_store, is_bad_text};
+ghost use Rattle.layer_core.specs.BadTexts.{is_bad_entry, is_bad_store, is_bad_text};
 
 use mark_base::char_count;
 

@@ -7,8 +7,8 @@ ghost use Rattle.layer_model.specs.declared.mark.Mark.{Mark};
 ghost use Rattle.layer_core.specs.MadeLayers.{falls};
 ghost use Rattle.layer_core.specs.Cascade.{falls_next, same_ids};
 ghost use Rattle.layer_model.specs.LayerIds.{ids_of};
-ghost use Rattle.layer_core.specs.PairRules.{is_id};
-ghost use Rattle.layer_core.specs.Rules.{named_by};
+ghost use Rattle.layer_core.specs.LayerRules.{is_id};
+ghost use Rattle.layer_core.specs.MarkRules.{named_by};
 
 use crate::targets::is_id;
 use layer_model::{Event, IdSet, Layer, id_at, ids_of};

@@ -3,7 +3,7 @@ ghost use Rattle.std.specs.Prelude.{◌≡◌, ◌≤◌, ◌||◌, not, length}
 ghost use Rattle.std.specs.List.{list_any};
 ghost use Rattle.layer_core.specs.FlawPlaces.{first_place, places};
 ghost use Rattle.layer_core.specs.Targets.{type_of};
-ghost use Rattle.layer_core.specs.PairRules.{are_bad_members, equiv_members, is_id, may_be_equal};
+ghost use Rattle.layer_core.specs.LayerRules.{are_bad_members, equiv_members, is_id, may_be_equal};
 ghost use Rattle.layer_core.specs.WellFormed.{at_equiv_members};
 ghost use Rattle.layer_core.specs.LowestFlaw.{class_rule, first_from};
 

@@ -11,7 +11,7 @@ ghost use Rattle.mark_base.specs.declared.ann_id.Kind.{Kind};
 ghost use Rattle.layer_model.specs.declared.mark.Mark.{Mark};
 ghost use Rattle.mark_base.specs.ReadIds.{id_at};
 ghost use Rattle.layer_core.specs.FlawPlaces.{first_place, places};
-ghost use Rattle.layer_core.specs.PairRules.{is_event_id, too_deep};
+ghost use Rattle.layer_core.specs.LayerRules.{is_event_id, too_deep};
 ghost use Rattle.layer_core.specs.WellFormed.{at_too_deep};
 ghost use Rattle.layer_core.specs.LowestFlaw.{first_among};
 ghost use Rattle.layer_core.specs.EventChains.{HoldsChains, is_held};

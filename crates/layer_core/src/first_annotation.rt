@@ -9,10 +9,10 @@ ghost use Rattle.layer_model.specs.declared.mark.Mark.{Mark};
 ghost use Rattle.layer_model.specs.Layers.{is_of_kind, mark_at};
 ghost use Rattle.mark_base.specs.ReadIds.{id_at};
 ghost use Rattle.layer_model.specs.LayerIds.{ids_of, ids_of_letter};
-ghost use Rattle.layer_core.specs.PairRules.{is_id};
-ghost use Rattle.layer_core.specs.Rules.{named_by};
+ghost use Rattle.layer_core.specs.LayerRules.{is_id};
+ghost use Rattle.layer_core.specs.MarkRules.{named_by};
 ghost use Rattle.layer_core.specs.MadeLayers.{event_of, is_note_on, is_reference_to, lowest, relation_of, span_of};
-ghost use Rattle.layer_core.specs.CommandFields.{attribute_on, first_naming, in_use, is_attribute_on, is_in_trigger, trigger_in_use};
+ghost use Rattle.layer_core.specs.CommandRules.{attribute_on, first_naming, in_use, is_attribute_on, is_in_trigger, trigger_in_use};
 
 use crate::targets::is_id;
 use layer_model::{

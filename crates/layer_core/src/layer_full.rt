@@ -3,7 +3,7 @@ ghost use Rattle.std.specs.Prelude.{◌≡◌, ◌≤◌, ◌-◌, length, slice
 ghost use Rattle.std.specs.Ordering.{nat_cmp};
 ghost use Rattle.std.specs.FinMap as finite;
 ghost use Rattle.layer_core.specs.FlawPlaces.{first_place, places};
-ghost use Rattle.layer_core.specs.PairRules.{classes_full};
+ghost use Rattle.layer_core.specs.LayerRules.{classes_full};
 ghost use Rattle.layer_core.specs.WellFormed.{at_layer_full};
 ghost use Rattle.layer_core.specs.LowestFlaw.{first_from, full_at};
 

@@ -6,7 +6,7 @@ ghost use Rattle.layer_core.specs.FlawPlaces.{first_rule, places};
 ghost use Rattle.layer_core.specs.LowestFlaw.{class_rule, flaw_at, lower_flaw, lowest_from, lowest_of, single_rules};
 
 use crate::class_rules::class_rule;
-use crate::scene::{Judge, Scene};
+use crate::rules_by_kind::{Judge, Scene};
 use layer_model::{Class, Flaw, FlawPlace, Rule, id_at};
 use mark_base::Kind;
 use std::collections::BTreeMap;

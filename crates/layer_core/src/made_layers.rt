@@ -5,8 +5,8 @@ ghost use Rattle.layer_model.specs.Layers.{is_of_kind};
 ghost use Rattle.mark_base.specs.declared.ann_id.Kind.{Kind};
 ghost use Rattle.layer_core.specs.declared.command.Command.{Command};
 ghost use Rattle.layer_core.specs.MadeLayers.{draft, with_args, with_attribute, with_changed, with_new, without_first};
-ghost use Rattle.layer_core.specs.PairRules.{is_arg};
-ghost use Rattle.layer_core.specs.CommandFields.{is_span_letter};
+ghost use Rattle.layer_core.specs.LayerRules.{is_arg};
+ghost use Rattle.layer_core.specs.CommandRules.{is_span_letter};
 ghost use Rattle.layer_core.specs.DraftShows.{draft_of};
 
 use crate::Command;

@@ -7,7 +7,7 @@ ghost use Rattle.layer_model.specs.declared.rule.Rule.{Rule};
 ghost use Rattle.layer_model.specs.declared.rule.RoleAt.{RoleAt};
 ghost use Rattle.overlap_rules.specs.Overlaps.{last_end};
 ghost use Rattle.layer_core.specs.Targets.{is_event_type};
-ghost use Rattle.layer_core.specs.Rules.{argument, argument_type, bad_fragments, filled, first_missing, first_unwanted, is_barred_type, is_refused_argument, member, named_by, out_of_text, span_too_long, too_many, unknown_role, unknown_value, wanted_by, where_so};
+ghost use Rattle.layer_core.specs.MarkRules.{argument, argument_type, bad_fragments, filled, first_missing, first_unwanted, is_barred_type, is_refused_argument, member, named_by, out_of_text, span_too_long, too_many, unknown_role, unknown_value, wanted_by, where_so};
 
 use crate::targets::{
     is_argument, is_attribute_target, is_event_type, is_member, is_trigger, target_of, type_of,

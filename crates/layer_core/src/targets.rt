@@ -1,6 +1,6 @@
 //! What an ID leads to in a layer, and what each place of an ID wants.
 ghost use Rattle.std.specs.Prelude.{◌≡◌};
-ghost use Rattle.layer_core.specs.PairRules.{is_id};
+ghost use Rattle.layer_core.specs.LayerRules.{is_id};
 ghost use Rattle.layer_core.specs.Targets.{is_argument, is_attribute_target, is_entity_type, is_event_type, is_member, is_normal_target, is_note_target, is_trigger, target_of, type_of};
 
 use annotation_conf::{AttrTarget, Conf};

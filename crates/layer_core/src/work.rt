@@ -8,7 +8,7 @@ ghost use Rattle.layer_core.specs.DraftShows.{draft_of};
 ghost use Rattle.layer_core.specs.WellFormed.{IsWellFormed, least_flaw};
 ghost use Rattle.layer_core.specs.Works.{IsRefusal};
 
-use crate::command_fields::{moved_rule, own_rule};
+use crate::command_rules::{moved_rule, own_rule};
 use crate::draft::Draft;
 use crate::made_layers::draft;
 use crate::named_in_refusal::told_of;

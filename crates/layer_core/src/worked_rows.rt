@@ -2,7 +2,7 @@
 //! when the crate is checked.
 ghost use Rattle.std.specs.Prelude.{◌≡◌, [], ◌∷◌, codes, true, false};
 ghost use Rattle.overlap_rules.specs.Overlaps.{reach};
-ghost use Rattle.layer_core.specs.SpanRules.{are_fragments, is_bad_text, is_bad_store, is_bad_entry};
+ghost use Rattle.layer_core.specs.BadTexts.{are_fragments, is_bad_text, is_bad_store, is_bad_entry};
 
 /// Fragments in order, how far they reach, and texts, stores and entries that may stand.
 pub fn examples_of_fields()

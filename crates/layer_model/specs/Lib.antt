@@ -6,6 +6,6 @@ pub mod Layers
 pub mod LayerIds
 pub mod Numbers
 pub mod RuleNames
-pub mod Rules
+pub mod RuleNumbers
 pub mod Snapshots
 pub mod Span

@@ -2,7 +2,8 @@
 ghost use Rattle.std.specs.Prelude.{◌≡◌, [], IfOk, OnOk};
 ghost use Rattle.layer_model.specs.Classes.{ascending, is_among, rank, with_id};
 
-use mark_base::{AnnId, IdList, Kind, Memory};
+use crate::letters::letter_place;
+use mark_base::{AnnId, IdList, Memory};
 use std::alloc::Global;
 use std::collections::BTreeMap;
 use std::marker::Model;
@@ -11,16 +12,7 @@ use std::marker::Model;
 pub fn rank(id: AnnId) -> u64
     ensures { result ≡ rank id }
 {
-    let letter: u64 = match id.kind {
-        Kind::Text => 0,
-        Kind::Event => 1,
-        Kind::Relation => 2,
-        Kind::Attribute => 3,
-        Kind::Legacy => 4,
-        Kind::Normal => 5,
-        Kind::Note => 6,
-    };
-    letter * 1_000_000_000 + u64::from(id.number)
+    u64::from(letter_place(id.kind)) * 1_000_000_000 + u64::from(id.number)
 }
 
 /// IDs in ascending order, each once.

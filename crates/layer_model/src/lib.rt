@@ -28,6 +28,7 @@ mod id_set;
 mod ids;
 mod laws;
 mod layer;
+mod letters;
 mod mark;
 mod normal;
 mod note;
@@ -49,6 +50,7 @@ pub use crate::laws::{
     shorter_chains_begin, take_undoes_put,
 };
 pub use crate::layer::Layer;
+pub use crate::letters::letter_place;
 pub use crate::mark::Mark;
 pub use crate::normal::Normal;
 pub use crate::note::Note;

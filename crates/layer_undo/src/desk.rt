@@ -9,7 +9,7 @@ ghost use Rattle.layer_undo.specs.Starts.{IsDeskStart, IsRefused};
 
 use crate::replay::{reopen_with, repeat_last};
 use crate::script_moves::{make_room, move_last};
-use crate::scripts::try_scripts;
+use crate::scripts::{MOST_COMMANDS, try_scripts};
 use crate::{DeskStart, Script};
 use annotation_conf::Conf;
 use char_documents::Doc;
@@ -120,6 +120,24 @@ impl Desk {
         Script::of(self.alloc, self.undone.as_slice())
     }
 
+    /// The done commands and the undone ones, as [`done`](Self::done) and [`undone`](Self::undone) give them; they are
+    /// moved and not copied, so this takes no memory.
+    pub fn into_scripts(self) -> (Script, Script)
+        ensures done { result.0 ≡ self.done }
+        ensures undone { result.1 ≡ self.undone }
+    {
+        let Desk {
+            alloc,
+            done,
+            undone,
+            ..
+        } = self;
+        (
+            Script::from_vec(alloc, done),
+            Script::from_vec(alloc, undone),
+        )
+    }
+
     /// A copy of the layer as it stands, to be shared. Cost: the layer.
     pub fn shared(&self) -> Result<Arc<Layer>, Memory>
         ensures { IfOk result (λ layer. arc_value layer ≡ layer_of self.now) }
@@ -148,7 +166,7 @@ impl Desk {
         ensures refused { IfErr result (IsRefused (performed self.old command)) }
         ensures kept { OnErr result (self.new ≡ self.old) }
     {
-        if self.done.len() >= 4096 {
+        if self.done.len() >= MOST_COMMANDS {
             return Err(Refusal::Rule(Rule::DeskFull));
         }
         make_room(&mut self.done)?;

@@ -15,11 +15,14 @@ use layer_model::{Layer, Rule};
 use std::alloc::Global;
 use std::sync::Arc;
 
+/// How many commands a desk has at most, done and undone together.
+pub(crate) const MOST_COMMANDS: usize = 4_096;
+
 /// Whether two scripts have more commands than a desk takes.
 fn are_too_many(done: &[Command], undone: &[Command]) -> bool
     ensures { result ≡ nat_lt 4096 (length done.now + length undone.now) }
 {
-    done.len() > 4096 || undone.len() > 4096 - done.len()
+    done.len() > MOST_COMMANDS || undone.len() > MOST_COMMANDS - done.len()
 }
 
 /// Tries undone commands from their end on a copy of a layer, where the last has this index. Cost: a copy
@@ -82,7 +85,7 @@ pub(crate) fn try_scripts(
     let mut work = open_copy(alloc, base, doc, conf)?;
     let _layer = work.layer();
     if are_too_many(done, undone) {
-        return Err(DeskStart::At(4096, Rule::DeskFull));
+        return Err(DeskStart::At(MOST_COMMANDS as u32, Rule::DeskFull));
     }
     carry_scripts(alloc, &mut work, doc, conf, done, undone)?;
     Ok(work)

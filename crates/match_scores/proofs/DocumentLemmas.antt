@@ -2,7 +2,7 @@
 use Rattle.std.proofs.Common.{◌≡◌, ℕ, ◌+◌, ◌<◌, ◌≤◌, ◌^◌, List, length, length-set, set, sym, ap, ◌∙◌, arith, subst, Option}
 use Rattle.layer_model.specs.Annotations.{Annotations}
 use Rattle.match_scores.specs.declared.sort.Sort.{Sort}
-use Rattle.match_scores.specs.declared.marks.Marks.{Marks}
+use Rattle.match_scores.specs.declared.layer_in_table.Marks.{Marks}
 use Rattle.match_scores.specs.declared.tally.Tallies.{Tallies}
 use Rattle.match_scores.specs.Matches.{Part, matched}
 use Rattle.match_scores.specs.Standing.{Layers, layer_of}

@@ -12,7 +12,7 @@ use Rattle.content_keys.specs.Tables.{Starts}
 use Rattle.match_scores.specs.declared.sort.Sort.{Sort}
 use Rattle.match_scores.specs.declared.sort.Sort.TheVariants.{Spans, Events, Relations}
 use Rattle.match_scores.specs.declared.places.Places.{Places}
-use Rattle.match_scores.specs.declared.marks.Marks.{Marks}
+use Rattle.match_scores.specs.declared.layer_in_table.Marks.{Marks}
 use Rattle.match_scores.specs.declared.tally.Tallies.{Tallies}
 use Rattle.match_scores.specs.Matches.{Part, Both, FirstOnly, SecondOnly, matched}
 use Rattle.match_scores.specs.Standing.{Layers, layer_of}

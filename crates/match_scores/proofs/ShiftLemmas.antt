@@ -3,7 +3,7 @@ use Rattle.std.proofs.Common.{◌≡◌, ℕ, ◌+◌, ◌<◌, min, max, List, 
 use Rattle.std.proofs.lemmas.List.{get_or-set_other}
 use Rattle.std.proofs.lemmas.Bool.{cases_eq, cases_lt}
 use Rattle.match_scores.specs.declared.sort.Sort.{Sort}
-use Rattle.match_scores.specs.declared.marks.Marks.{Marks}
+use Rattle.match_scores.specs.declared.layer_in_table.Marks.{Marks}
 use Rattle.match_scores.specs.declared.tally.Tallies.{Tallies}
 use Rattle.match_scores.specs.Matches.{Part}
 use Rattle.match_scores.specs.Places.{Moves, marks_at, met}

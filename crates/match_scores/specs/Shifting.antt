@@ -1,7 +1,7 @@
 -- How the running counts change, rater by rater (private calls only).
 use Rattle.std.specs.Prelude.{◌≡◌, ◌⊎◌, ℕ, ◌+◌, ◌<◌, List, Option}
 use Rattle.match_scores.specs.declared.sort.Sort.{Sort}
-use Rattle.match_scores.specs.declared.marks.Marks.{Marks}
+use Rattle.match_scores.specs.declared.layer_in_table.Marks.{Marks}
 use Rattle.match_scores.specs.declared.tally.Tallies.{Tallies}
 use Rattle.match_scores.specs.Matches.{Part}
 use Rattle.match_scores.specs.Places.{marks_at, met}

@@ -9,7 +9,7 @@ ghost use Rattle.match_scores.specs.Places.{AreCoherent, AreMarked, IsFew, IsMar
 ghost use Rattle.match_scores.specs.Counted.{Shifts};
 ghost use Rattle.match_scores.specs.Tallies.{IsSquare, cell};
 
-use crate::marks::{Marks, marks_of};
+use crate::layer_in_table::{Marks, marks_of};
 use crate::tally::Tallies;
 use crate::totals::seat;
 use content_keys::ContentTable;

@@ -29,18 +29,18 @@
 #![tactic(auto)]
 
 mod document;
+mod layer_in_table;
 mod line;
-mod marks;
 mod places;
 mod scores;
 mod sort;
 mod table;
 mod tally;
 mod totals;
-mod worked;
+mod worked_rows;
 
 pub use crate::line::ScoreLine;
 pub use crate::scores::Scores;
 pub use crate::sort::Sort;
 pub use crate::table::scores_csv;
-pub use crate::worked::worked_lines;
+pub use crate::worked_rows::worked_lines;

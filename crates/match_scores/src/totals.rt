@@ -5,7 +5,7 @@ ghost use Rattle.match_scores.specs.Matches.{Part};
 ghost use Rattle.match_scores.specs.Places.{Moves, marks_at, met};
 ghost use Rattle.match_scores.specs.Tallies.{IsSquare, cell, read};
 
-use crate::marks::{Marks, tallies_of};
+use crate::layer_in_table::{Marks, tallies_of};
 use crate::tally::Tallies;
 use mark_base::Memory;
 use std::alloc::Global;

@@ -14,7 +14,7 @@ use Rattle.token_columns.specs.declared.column_fault.ColumnOut.{ColumnOut}
 use Rattle.token_columns.specs.declared.column_fault.ColumnOut.TheVariants as out
 use Rattle.token_columns.specs.FaultNames.{out_name}
 use Rattle.mark_base.specs.declared.ann_id.AnnId.{AnnId}
-use Rattle.layer_core.specs.ShownNames.{id_text}
+use Rattle.layer_core.specs.NamedByRule.{id_text}
 use Rattle.project_machine.specs.declared.roster_fault.RosterFault.{RosterFault}
 use Rattle.project_machine.specs.declared.roster_fault.RosterFault.TheVariants as people
 use Rattle.roster_file.specs.declared.roster_read.RosterRead.{RosterRead}

@@ -12,7 +12,7 @@ use Rattle.project_machine.specs.Requests.{Asked, Answered, Refused, Happened}
 use Rattle.project_machine.specs.Machine.{step}
 use Rattle.project_machine.specs.History.{after, encoded}
 use Rattle.project_machine.specs.Legal.{HasRoom, IsLegal, legal_step}
-use Rattle.project_machine.specs.Typed.{IsAsked}
+use Rattle.project_machine.specs.RequestValues.{IsAsked}
 use Rattle.project_machine.specs.Asking.{IsDoubted, IsKeptBy, IsLeftByAsk, IsLeftWith, StaysOrGoes, steps, wants_memory, is_not_kept, entry_behind, own_entry, stepped_on}
 use Rattle.label_tracks.specs.Levels.{Grouping}
 use Rattle.kappa_alpha.specs.Standing.{Standing}

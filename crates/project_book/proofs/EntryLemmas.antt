@@ -23,7 +23,8 @@ use Rattle.project_machine.specs.declared.book_refusal.BookRefusal.TheVariants a
 use Rattle.curator_decisions.specs.declared.decision_fault.DecisionFault.TheVariants as fault
 use Rattle.project_machine.specs.ProjectState.{Document, Snapshot, ProjectState, document, holder_of, is_annotator, is_curator, is_holder, is_some_out, is_there, no_document, no_snapshot, number_of, snapshot}
 use Rattle.project_machine.specs.Requests.{Asked, ReadConf, ListDocs, ReadText, AddText, Checkout, TakeOver, Commit, Park, Finish, ReadLayer, Reopen, Ignore, Readmit, Snap, TakeSnapshot, Decide, Undecide, ReadPairs, ReadAlpha, Happened, TextAdded, CheckedOut, TakenOver, LayerCommitted, LayerParked, LayerFinished, LayerReopened, LayerIgnored, LayerReadmitted, SnapshotTaken, ItemDecided, ItemUndecided, AllFreed}
-use Rattle.project_machine.specs.Typed.{IsAsked, IsDocText, IsTypedLayer}
+use Rattle.command_bytes.specs.CommandValues.{IsTypedLayer}
+use Rattle.project_machine.specs.RequestValues.{IsAsked, IsDocText}
 use Rattle.project_machine.specs.Entries.{encoded_text, entry_of, founding_entry, lines_in}
 use Rattle.project_machine.specs.Machine.{curators_only, holds, size_in, step, taken, there}
 use Rattle.project_machine.specs.History.{after}

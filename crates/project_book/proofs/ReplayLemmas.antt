@@ -11,7 +11,7 @@ use Rattle.annotation_conf.specs.Configurations.{Configuration}
 use Rattle.annotation_conf.specs.ConfText.{conf_text}
 use Rattle.project_machine.specs.ProjectState.{ProjectState, is_some_out}
 use Rattle.project_machine.specs.Requests.{Asked, Happened, Founded, TextAdded, CheckedOut, TakenOver, LayerCommitted, LayerParked, LayerFinished, LayerReopened, LayerIgnored, LayerReadmitted, SnapshotTaken, ItemDecided, ItemUndecided, AllFreed, Restored}
-use Rattle.project_machine.specs.Typed.{IsAsked}
+use Rattle.project_machine.specs.RequestValues.{IsAsked}
 use Rattle.project_machine.specs.Entries.{entries_of, entry_of, first_piece, founding_entry, pieces_of}
 use Rattle.project_machine.specs.Machine.{step}
 use Rattle.project_machine.specs.AskedFor.{asked_for, next_by}

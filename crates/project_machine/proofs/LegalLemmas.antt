@@ -5,9 +5,9 @@ use Rattle.std.specs.Option.{option_or}
 use Rattle.project_machine.specs.declared.book_refusal.BookRefusal.{BookRefusal}
 use Rattle.project_machine.specs.declared.book_refusal.BookRefusal.TheVariants as no
 use Rattle.project_machine.specs.ProjectState.{Document, ProjectState, document, row_in, number_of, annotators, is_annotator, snapshot, holder_of, item_in}
-use Rattle.project_machine.specs.CommandBytes.{scripts_bytes}
+use Rattle.command_bytes.specs.CommandBytes.{scripts_bytes}
 use Rattle.project_machine.specs.Requests.{Asked, ReadConf, ListDocs, ReadText, AddText, Checkout, TakeOver, Commit, Park, Finish, ReadLayer, Reopen, Ignore, Readmit, Snap, TakeSnapshot, Decide, Undecide, ReadPairs, ReadAlpha, Happened, TextAdded, CheckedOut, TakenOver, LayerCommitted, LayerParked, LayerFinished, LayerReopened, LayerIgnored, LayerReadmitted, SnapshotTaken, ItemDecided, ItemUndecided, AllFreed}
-use Rattle.project_machine.specs.Typed.{IsAsked}
+use Rattle.project_machine.specs.RequestValues.{IsAsked}
 use Rattle.project_machine.specs.Entries.{lines_in}
 use Rattle.project_machine.specs.Machine.{has_layer, size_in, size_of, there}
 use Rattle.project_machine.specs.History.{after, effect, last, place_behind, under_hold, with_commit, with_draft, with_finished, with_ignored, with_decision, without_decision}

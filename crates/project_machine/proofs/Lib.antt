@@ -1,14 +1,3 @@
-mod CommandAccepted
-mod CommandFieldLaws
-mod CommandIds
-mod CommandLaws
-mod CommandLists
-mod CommandLoads
-mod CommandNames
-mod CommandScripts
-mod CommandScriptsRead
-mod CommandTyped
-mod CommandUtf8
 mod EmptyLemmas
 pub mod HistoryLemmas
 pub mod KeptLemmas

@@ -9,7 +9,7 @@ use Rattle.project_machine.specs.Entries.{entries_of}
 use Rattle.project_machine.specs.History.{after, after_places, effect, encoded, encoded_from, freed, numbered_from, place_behind, under_hold, unfounded}
 use Rattle.project_machine.specs.Legal.{IsLegal, legal_freeing, legal_step}
 use Rattle.project_machine.specs.Machine.{step}
-use Rattle.project_machine.specs.Typed.{IsAsked}
+use Rattle.project_machine.specs.RequestValues.{IsAsked}
 use Rattle.project_machine.specs.Asking.{IsNext, entry_behind, own_entry}
 use Rattle.project_machine.specs.Opening.{IsOpened, freeing_bytes, with_freeing}
 use Rattle.project_machine.proofs.HistoryLemmas.{after_more}

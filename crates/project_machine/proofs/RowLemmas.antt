@@ -17,9 +17,9 @@ use Rattle.layer_undo.specs.Replays.{first_refusal}
 use Rattle.entry_bytes.specs.declared.entry.Entry.TheVariants as entry
 use Rattle.ann_writer.specs.AnnOf.{ann_of}
 use Rattle.project_machine.specs.ProjectState.{Row, blank_row}
-use Rattle.project_machine.specs.CommandBytes.{scripts_bytes}
+use Rattle.command_bytes.specs.CommandBytes.{scripts_bytes}
 use Rattle.project_machine.specs.Entries.{IsShort}
-use Rattle.project_machine.specs.Typed.{AreCommands, IsTypedLayer}
+use Rattle.command_bytes.specs.CommandValues.{AreCommands, IsTypedLayer}
 use Rattle.project_machine.specs.Machine.{commit_rule}
 use Rattle.project_machine.specs.History.{under_hold, with_commit, with_draft, with_finished, with_ignored}
 use Rattle.project_machine.specs.Legal.{IsRowKept, LayerObeys}

@@ -7,7 +7,7 @@ use Rattle.entry_bytes.specs.declared.person.Person.{Person}
 use Rattle.entry_bytes.specs.declared.entry.Entry.TheVariants as entry
 use Rattle.entry_bytes.specs.Entries.{entry_bytes}
 use Rattle.ann_writer.specs.AnnOf.{ann_of}
-use Rattle.project_machine.specs.CommandBytes.{scripts_bytes}
+use Rattle.command_bytes.specs.CommandBytes.{scripts_bytes}
 use Rattle.project_machine.proofs.LegalLemmas.{none_some, some_same}
 use Rattle.layer_model.specs.Annotations.{Annotations}
 use Rattle.layer_core.specs.declared.command.Command.{Command}

@@ -4,7 +4,7 @@ use Rattle.entry_bytes.specs.Fields.{u32_bytes, u64_bytes, slug_bytes, text_byte
 use Rattle.entry_bytes.specs.Entries.{entry_bytes}
 use Rattle.entry_bytes.specs.declared.entry.Entry.TheVariants as entry
 use Rattle.annotation_conf.specs.Configurations.{Configuration}
-use Rattle.project_machine.specs.CommandBytes.{script_bytes, scripts_bytes}
+use Rattle.command_bytes.specs.CommandBytes.{script_bytes, scripts_bytes}
 use Rattle.project_machine.specs.Entries.{IsShort}
 
 four : (n : ℕ) → length (u32_bytes n) ≡ 4

@@ -10,7 +10,7 @@ use Rattle.std.proofs.lemmas.Slice.Eq.{bytes_eq-Decides}
 use Rattle.entry_bytes.specs.Fields.{IsSlug}
 use Rattle.project_machine.specs.ProjectState.{Row, Document, ProjectState, blank_row, no_document, new_document, document, row, annotators, is_annotator, is_there}
 use Rattle.project_machine.specs.Requests.{TextAdded, AllFreed}
-use Rattle.project_machine.specs.Typed.{IsDocText}
+use Rattle.project_machine.specs.RequestValues.{IsDocText}
 use Rattle.project_machine.specs.Machine.{is_full}
 use Rattle.project_machine.specs.History.{effect, on_row, freed, under_hold}
 use Rattle.project_machine.specs.Legal.{IsDocumentKept, IsKept, IsRowKept, NamesDiffer}

@@ -4,7 +4,7 @@ use Rattle.std.specs.Option.{option_and_then}
 use Rattle.project_machine.specs.ProjectState.{ProjectState, document, is_some_out, snapshot, holder_name}
 use Rattle.project_machine.specs.Requests.{Asked, AddText, Checkout, TakeOver, Commit, Park, Finish, Reopen, Ignore, Readmit, Snap, Decide, Undecide, Happened, Founded, TextAdded, CheckedOut, TakenOver, LayerCommitted, LayerParked, LayerFinished, LayerReopened, LayerIgnored, LayerReadmitted, SnapshotTaken, ItemDecided, ItemUndecided, AllFreed, Restored}
 use Rattle.project_machine.specs.Machine.{step}
-use Rattle.project_machine.specs.Typed.{IsAsked}
+use Rattle.project_machine.specs.RequestValues.{IsAsked}
 
 -- who asked for a change, and for what; nobody asks for a founding, a freeing or a restored state
 abbrev pub asked_for : ProjectState → Happened → Option (List ℕ × Asked)

@@ -14,7 +14,7 @@ use Rattle.unanimous_merge.specs.declared.item.ItemId.{ItemId}
 use Rattle.curator_decisions.specs.declared.verdict.Verdict.{Verdict}
 use Rattle.curator_decisions.specs.declared.verdict.Verdict.TheVariants.{Accept, Reject}
 use Rattle.project_machine.specs.ProjectState.{Row, Document, Snapshot, ProjectState, annotators, document, text_of}
-use Rattle.project_machine.specs.CommandBytes.{list_bytes, scripts_bytes}
+use Rattle.command_bytes.specs.CommandBytes.{list_bytes, scripts_bytes}
 use Rattle.project_machine.specs.Requests.{Happened, Founded, TextAdded, CheckedOut, TakenOver, LayerCommitted, LayerParked, LayerFinished, LayerReopened, LayerIgnored, LayerReadmitted, SnapshotTaken, ItemDecided, ItemUndecided, AllFreed, Restored}
 
 -- the bytes of a text

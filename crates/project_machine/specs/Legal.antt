@@ -17,9 +17,10 @@ use Rattle.curator_decisions.specs.Decisions.{Ascend}
 use Rattle.curator_decisions.specs.DecisionFaults.{decision_fault}
 use Rattle.project_machine.specs.People.{IsRoster}
 use Rattle.project_machine.specs.ProjectState.{Row, Document, Snapshot, ProjectState, annotators, is_annotator, is_some_out, text_of}
-use Rattle.project_machine.specs.CommandBytes.{scripts_bytes}
+use Rattle.command_bytes.specs.CommandBytes.{scripts_bytes}
 use Rattle.project_machine.specs.Entries.{IsShort, held_piece}
-use Rattle.project_machine.specs.Typed.{IsAsked, IsDocText, IsTypedLayer, AreCommands}
+use Rattle.command_bytes.specs.CommandValues.{IsTypedLayer, AreCommands}
+use Rattle.project_machine.specs.RequestValues.{IsAsked, IsDocText}
 use Rattle.project_machine.specs.Requests.{Asked, View, Happened, Founded, AllFreed, Restored}
 use Rattle.project_machine.specs.Machine.{step}
 use Rattle.project_machine.specs.History.{after}

@@ -2,13 +2,10 @@ pub mod People
 pub mod ProjectState
 pub mod Requests
 pub mod Tables
-pub mod CommandBytes
-pub mod CommandReading
 pub mod Entries
 pub mod Machine
 pub mod History
-pub mod Typed
-pub mod CommandFields
+pub mod RequestValues
 pub mod Legal
 pub mod Own
 pub mod AskedFor

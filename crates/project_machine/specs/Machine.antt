@@ -21,7 +21,7 @@ use Rattle.project_machine.specs.declared.book_refusal.Policy.TheVariants as pol
 use Rattle.project_machine.specs.declared.doc_line.DocLine.{DocLine}
 use Rattle.unanimous_merge.specs.declared.item.ItemId.{ItemId}
 use Rattle.curator_decisions.specs.declared.verdict.Verdict.{Verdict}
-use Rattle.layer_core.specs.ShownNames.{id_text, named_by_rule}
+use Rattle.layer_core.specs.NamedByRule.{id_text, named_by_rule}
 use Rattle.project_machine.specs.ProjectState.{Row, Document, Snapshot, ProjectState, annotators, is_annotator, is_curator, is_there, number_of, document, row_in, no_snapshot, finished_rows, is_untaken, snapshot, text_of, is_holder, holder_of, holder_name, item_in}
 use Rattle.project_machine.specs.Requests.{Asked, ReadConf, ListDocs, ReadText, AddText, Checkout, TakeOver, Commit, Park, Finish, ReadLayer, Reopen, Ignore, Readmit, Snap, TakeSnapshot, Decide, Undecide, ReadPairs, ReadAlpha, Out, View, Answered, Conf, Docs, Text, Added, HandedOut, Committed, Parked, Finished, Layer, Ignored, Snapped, Taken, Decided, Pairs, Alpha, Refused, Happened, TextAdded, CheckedOut, TakenOver, LayerCommitted, LayerParked, LayerFinished, LayerReopened, LayerIgnored, LayerReadmitted, SnapshotTaken, ItemDecided, ItemUndecided}
 use Rattle.project_machine.specs.Entries.{entry_of}

@@ -7,7 +7,7 @@ ghost use Rattle.project_machine.specs.People.{IsOrdered, IsRoster};
 ghost use Rattle.project_machine.specs.Machine.{step};
 ghost use Rattle.project_machine.specs.Requests.{Asked, Happened, Taken, TakeSnapshot, View};
 ghost use Rattle.project_machine.specs.History.{after, begin, effect, encoded, last, upto};
-ghost use Rattle.project_machine.specs.Typed.{IsAsked};
+ghost use Rattle.project_machine.specs.RequestValues.{IsAsked};
 ghost use Rattle.project_machine.specs.Opening.{IsOpened, freeing_bytes};
 ghost use Rattle.project_machine.specs.Own.{IsPrivate};
 ghost use Rattle.project_machine.specs.Asking.{IsNext, own_entry};

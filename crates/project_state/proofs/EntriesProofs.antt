@@ -4,7 +4,6 @@ pub mod WritableLemmas
 pub mod TellLemmas
 pub mod AgainLemmas
 pub mod RosterLemmas
-pub mod ItemLemmas
 pub mod ParkLemmas
 pub mod OrderLemmas
 pub mod FoundingLemmas

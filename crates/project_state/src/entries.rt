@@ -18,9 +18,9 @@ mod change_entry;
 mod documents;
 mod founding;
 mod laws;
-mod letters;
 mod lines;
 mod snapshots;
+mod verdicts;
 mod written;
 
 pub use crate::entries::asking::{Asking, asking_of};

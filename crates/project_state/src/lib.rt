@@ -16,13 +16,11 @@
 #![tactic(auto)]
 
 pub use project_machine::{
-    BookRefusal, DocLine, Policy, Roster, RosterFault, Scripts, accepted_scripts_can_be_written,
-    annotators_are_shown_their_own, annotators_change_their_own_rows, changes_tell_their_requests,
-    committed_layers_obey, examples_of_broken_layers, examples_of_command_bytes,
-    examples_of_command_reading, examples_of_histories, examples_of_snapshots, examples_of_steps,
-    histories_go_on, loads_are_read_again, openings_can_be_repeated, places_stand, read_scripts,
-    rosters_can_found, scripts_are_told_apart, scripts_without_loads, snapshots_stay,
-    states_can_be_restored, typed_scripts_are_read_again, views_can_be_curated, write_scripts,
+    BookRefusal, DocLine, Policy, Roster, RosterFault, annotators_are_shown_their_own,
+    annotators_change_their_own_rows, changes_tell_their_requests, committed_layers_obey,
+    examples_of_broken_layers, examples_of_histories, examples_of_snapshots, examples_of_steps,
+    histories_go_on, openings_can_be_repeated, places_stand, rosters_can_found, snapshots_stay,
+    states_can_be_restored, views_can_be_curated,
 };
 
 mod act;
@@ -33,6 +31,7 @@ mod document;
 mod entries;
 mod finished_layers;
 mod lending;
+mod limits;
 mod pair_list;
 mod people;
 mod reply;
@@ -52,6 +51,7 @@ pub use crate::entries::{
     Asking, Founding, Written, accepted_changes_can_be_entered, asking_of, change_bytes, entry_for,
     entry_written, founding_of, names_are_spelt,
 };
+pub use crate::limits::{MOST_CHARACTERS, MOST_DOCUMENTS};
 pub use crate::pair_list::PairList;
 pub use crate::reply::{Out, Reply, SnapshotView};
 pub use crate::request::Request;

@@ -7,6 +7,7 @@ ghost use Rattle.project_state.specs.Restoring.{AreNumbered, CanBeKept, total_of
 use crate::Roster;
 use crate::acting::put_number;
 use crate::document::StoredDocument;
+use crate::limits::{MOST_CHARACTERS, MOST_DOCUMENTS};
 use crate::state::BookState;
 use crate::stored_snapshot::StoredSnapshot;
 use annotation_conf::Conf;
@@ -23,7 +24,7 @@ fn total_of(documents: &[StoredDocument]) -> Option<u64>
     let mut total = 0;
     for document in documents {
         total += u64::from(document.text().char_count());
-        if 16_777_216 < total {
+        if MOST_CHARACTERS < total {
             return None;
         }
     }
@@ -68,7 +69,7 @@ impl BookState {
         ensures kept { IfOk result (λ found. IfSome found (λ kept. CanBeKept documents.items)) }
         ensures refused { IfOk result (λ found. IfNone found (CanBeKept documents.items → ⊥)) }
     {
-        if 4096 < documents.len() {
+        if MOST_DOCUMENTS < documents.len() {
             return Ok(None);
         }
         let Some(total) = total_of(documents.as_slice()) else {

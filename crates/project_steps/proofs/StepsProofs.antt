@@ -4,5 +4,5 @@ pub mod JudgeLemmas
 pub mod OutcomeLemmas
 pub mod ShotLemmas
 pub mod TextLemmas
-pub mod TypedLemmas
+pub mod ValueLemmas
 pub mod VerdictActs

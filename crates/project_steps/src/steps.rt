@@ -19,11 +19,11 @@ mod outcomes;
 mod parts;
 mod policies;
 mod refusals;
+mod request_values;
 mod rows;
 mod shots;
 mod snap;
 mod texts;
-mod typed;
 
 pub use crate::steps::judging::{Judged, Kept, judge};
-pub use crate::steps::typed::{is_typed, layer_is_typed, scripts_are_typed};
+pub use crate::steps::request_values::{is_typed, layer_is_typed, scripts_are_typed};

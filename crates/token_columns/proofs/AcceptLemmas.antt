@@ -13,7 +13,7 @@ use Rattle.type_hierarchy.specs.TypeTrees.{type_named}
 use Rattle.annotation_conf.specs.Configurations.{Configuration}
 use Rattle.annotation_conf.specs.ConfText.{type_name_at}
 use Rattle.annotation_conf.specs.Sound.{IsSound}
-use Rattle.layer_core.specs.Rules.{is_barred_type}
+use Rattle.layer_core.specs.MarkRules.{is_barred_type}
 use Rattle.ann_writer.proofs.ConfWords.{same_word, type_read_back, type_word}
 use Rattle.ann_writer.proofs.PlainWords.{IsPlain, name_plain, parts}
 use Rattle.token_columns.specs.declared.column_fault.ColumnWhat.TheVariants.{NotForUse}

@@ -13,7 +13,7 @@ use Rattle.type_hierarchy.specs.declared.type_row.TypeRow.{TypeRow}
 use Rattle.type_hierarchy.specs.TypeTrees.{type_named, is_named}
 use Rattle.annotation_conf.specs.Configurations.{Configuration}
 use Rattle.annotation_conf.specs.ConfText.{type_name_at}
-use Rattle.layer_core.specs.Rules.{is_barred_type}
+use Rattle.layer_core.specs.MarkRules.{is_barred_type}
 use Rattle.token_columns.specs.declared.column_fault.ColumnWhat.TheVariants.{NotForUse, TooLong, Full, Orphan, WrongToken}
 use Rattle.token_columns.specs.declared.label.Label.{Label}
 use Rattle.token_columns.specs.declared.label.Label.TheVariants as label

@@ -14,8 +14,8 @@ use Rattle.layer_model.specs.declared.mark.Mark.TheVariants as marked
 use Rattle.layer_model.specs.declared.span.Span.{Span}
 use Rattle.layer_model.specs.Annotations.{Annotations}
 use Rattle.layer_model.specs.Layers.{IsLayer}
-use Rattle.layer_core.specs.Rules.{bad_fragments, where_so}
-use Rattle.layer_core.specs.SpanRules.{are_fragments}
+use Rattle.layer_core.specs.MarkRules.{bad_fragments, where_so}
+use Rattle.layer_core.specs.BadTexts.{are_fragments}
 use Rattle.layer_core.specs.WellFormed.{IsWellFormed}
 use Rattle.layer_core.proofs.PlaceLemmas.{entries_found}
 use Rattle.char_documents.specs.Tokens.{tokens_of}

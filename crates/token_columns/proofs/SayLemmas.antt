@@ -21,10 +21,10 @@ use Rattle.layer_model.specs.declared.span.Span.{Span}
 use Rattle.layer_model.specs.Annotations.{Annotations}
 use Rattle.layer_model.specs.LayerIds.{id_place, ids_of_letter}
 use Rattle.layer_model.specs.Layers.{IsLayer}
-use Rattle.layer_core.specs.PairRules.{counted_letter, counted_with, is_id, layer_full}
+use Rattle.layer_core.specs.LayerRules.{counted_letter, counted_with, is_id, layer_full}
 use Rattle.label_tracks.specs.Candidates.{start_of, end_of}
 use Rattle.layer_model.specs.declared.mark.Mark.{Mark}
-use Rattle.layer_core.specs.Rules.{not_for_use, span_too_long, unknown_type, where_so}
+use Rattle.layer_core.specs.MarkRules.{not_for_use, span_too_long, unknown_type, where_so}
 use Rattle.layer_core.specs.WellFormed.{IsWellFormed}
 use Rattle.layer_core.proofs.PlaceLemmas.{entries_found}
 use Rattle.token_columns.specs.declared.label.Label.{Label}

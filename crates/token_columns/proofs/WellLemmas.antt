@@ -28,8 +28,8 @@ use Rattle.layer_model.specs.LayerIds.{id_place, ids_of, ids_of_letter}
 use Rattle.layer_model.specs.declared.span.Span.{Span}
 use Rattle.layer_model.specs.Layers.{mark_of}
 use Rattle.layer_core.specs.FlawPlaces.{by_place}
-use Rattle.layer_core.specs.PairRules.{attribute_there, bad_text, classes_full, equiv_members, overlap_refused, same_event, same_relation, same_span, too_deep, counted_letter, counted_with, is_id, layer_full, lower_pair, refused_overlap, same_attributes, same_events, same_relations, same_spans}
-use Rattle.layer_core.specs.Rules.{argument_type, first_missing, first_unwanted, member, named_by, too_many, unknown_class, class_not_for_use, unknown_role, unknown_value, wanted_by, bad_fragments, not_for_use, out_of_text, span_too_long, unknown_type, where_so}
+use Rattle.layer_core.specs.LayerRules.{attribute_there, bad_text, classes_full, equiv_members, overlap_refused, same_event, same_relation, same_span, too_deep, counted_letter, counted_with, is_id, layer_full, lower_pair, refused_overlap, same_attributes, same_events, same_relations, same_spans}
+use Rattle.layer_core.specs.MarkRules.{argument_type, first_missing, first_unwanted, member, named_by, too_many, unknown_class, class_not_for_use, unknown_role, unknown_value, wanted_by, bad_fragments, not_for_use, out_of_text, span_too_long, unknown_type, where_so}
 use Rattle.layer_core.specs.WellFormed.{Never, IsWellFormed, no_class}
 use Rattle.token_columns.specs.declared.run.Run.{Run}
 use Rattle.token_columns.specs.Fits.{only_spans}

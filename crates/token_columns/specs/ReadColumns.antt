@@ -9,7 +9,7 @@ use Rattle.mark_base.specs.Names.{name_fault}
 use Rattle.char_documents.specs.Tokens.{tokens_of}
 use Rattle.type_hierarchy.specs.TypeTrees.{type_named}
 use Rattle.annotation_conf.specs.Configurations.{Configuration}
-use Rattle.layer_core.specs.Rules.{is_barred_type}
+use Rattle.layer_core.specs.MarkRules.{is_barred_type}
 use Rattle.token_columns.specs.declared.column_fault.ColumnWhat.{ColumnWhat}
 use Rattle.token_columns.specs.declared.column_fault.ColumnWhat.TheVariants.{NotUtf8, BadLine, TooMany, WrongToken, UnknownType, NotForUse, Orphan, TooLong, Full, TooFew}
 use Rattle.token_columns.specs.declared.column_fault.ColumnFault.{ColumnFault}

@@ -1,23 +1,17 @@
 -- What is answered to what is refused: the name of the rule, what it names, and the status.
-use Rattle.std.specs.Prelude.{ℕ, List, ◌++◌, nat_lt, if◌then◌else◌, Option, Some, None, codes, decimal}
+use Rattle.std.specs.Prelude.{ℕ, List, ◌++◌, Option, Some, None, codes, decimal}
 use Rattle.json.specs.Print.{quoted}
 use Rattle.serde_json.specs.Data.{Data, string, number, unsigned, object, member, no_members}
 use Rattle.annotation_conf.specs.Configurations.{Configuration}
 use Rattle.layer_model.specs.declared.rule.Rule.{Rule}
 use Rattle.layer_model.specs.RuleNames.{rule_name}
-use Rattle.layer_model.specs.Rules.{number_of}
-use Rattle.layer_core.specs.ShownNames.{named_by_rule}
+use Rattle.layer_core.specs.NamedByRule.{named_by_rule}
 use Rattle.ann_reader.specs.declared.ann_fault.AnnWhat.{AnnWhat}
 use Rattle.ann_reader.specs.declared.ann_fault.AnnWhat.TheVariants as ann
 use Rattle.http_wire.specs.declared.answer.Answer.{Answer}
 use Rattle.http_wire.specs.declared.answer.Media.TheVariants.{Json}
 use Rattle.http_wire.specs.Answers.{refusal}
-
--- ---- a rule
-
--- what a command or a layer may break is content that cannot be processed; a full desk and an empty list are a conflict (RFC 9110, section 15.5)
-abbrev pub rule_status : Rule → ℕ
-rule_status broken = if nat_lt 24 (number_of broken) then 409 else 422
+use Rattle.http_answers.specs.AnswerBodies.Refusals.{rule_status}
 
 -- ---- the answers
 

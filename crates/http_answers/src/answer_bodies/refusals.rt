@@ -43,7 +43,7 @@ fn refusal_of(alloc: Global, status: u16, name: &str, named: &str) -> Result<Ans
 }
 
 /// The status of a broken rule.
-fn rule_status(rule: Rule) -> u16
+pub(crate) fn rule_status(rule: Rule) -> u16
     ensures value { result ≡ rule_status rule }
     ensures status { IsStatusCode result }
 {

@@ -4,9 +4,10 @@ ghost use Rattle.json.specs.Print.{quoted};
 ghost use Rattle.http.specs.StatusCode.{IsStatusCode};
 ghost use Rattle.serde_json.specs.View.{view};
 ghost use Rattle.layer_model.specs.RuleNames.{rule_name};
-ghost use Rattle.layer_core.specs.ShownNames.{named_by_rule};
-ghost use Rattle.http_answers.specs.Desk.Refusals.{fault_answer, line_members, line_refusal, refusal_of, rule_answer, rule_status};
+ghost use Rattle.layer_core.specs.NamedByRule.{named_by_rule};
+ghost use Rattle.http_answers.specs.Desk.Refusals.{fault_answer, line_members, line_refusal, refusal_of, rule_answer};
 
+use crate::answer_bodies::rule_status;
 use ann_reader::AnnWhat;
 use annotation_conf::Conf;
 use http_wire::{Answer, Media};
@@ -15,14 +16,6 @@ use layer_model::Rule;
 use mark_base::{Bytes, Memory, Text};
 use serde_json::{Value, json};
 use std::alloc::Global;
-
-/// The status of a broken rule.
-fn rule_status(rule: Rule) -> u16
-    ensures value { result ≡ rule_status rule }
-    ensures status { IsStatusCode result }
-{
-    if rule.number() > 24 { 409 } else { 422 }
-}
 
 /// An answer in JSON.
 pub(crate) fn json_answer(status: u16, body: String) -> Answer

@@ -9,7 +9,7 @@ use Rattle.entry_bytes.specs.declared.entry.Entry.{Entry}
 use Rattle.entry_bytes.specs.declared.entry.Entry.TheVariants as entry
 use Rattle.layer_model.specs.Annotations.{Annotations}
 use Rattle.ann_writer.specs.AnnOf.{ann_of}
-use Rattle.project_machine.specs.CommandBytes.{list_bytes, scripts_bytes}
+use Rattle.command_bytes.specs.CommandBytes.{list_bytes, scripts_bytes}
 use Rattle.project_machine.specs.Entries.{document_piece, first_piece, flags_of, has_draft, held_piece, is_committed, pieces_of, row_pieces, rows_pieces, snapshot_pieces, verdict_bytes}
 use Rattle.project_machine.specs.Legal.{IsAccepted, IsDocumentKept, IsRowKept, IsSnapshotKept, IsSound}
 use Rattle.project_machine.specs.ProjectState.{Row, Document, Snapshot, ProjectState, annotators, document, is_annotator, no_document}

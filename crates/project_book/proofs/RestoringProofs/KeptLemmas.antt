@@ -20,7 +20,7 @@ use Rattle.ann_writer.specs.AnnOf.{ann_of}
 use Rattle.project_state.proofs.EntriesProofs.SizeLemmas.{text_size}
 use Rattle.project_machine.specs.ProjectState.{Row, Document, Snapshot, ProjectState, annotators, document, no_document, text_of}
 use Rattle.project_machine.specs.Entries.{IsShort}
-use Rattle.project_machine.specs.Typed.{AreCommands, IsTypedLayer}
+use Rattle.command_bytes.specs.CommandValues.{AreCommands, IsTypedLayer}
 use Rattle.project_machine.specs.Legal.{IsDocumentKept, IsFounding, IsRowKept, IsSound, LayerObeys, NamesDiffer}
 use Rattle.project_state.specs.Stored.{IsStored, numbered_as}
 use Rattle.project_book.proofs.RestoringProofs.OrderLemmas.{any_default}

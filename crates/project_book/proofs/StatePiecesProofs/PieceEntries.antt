@@ -18,11 +18,12 @@ use Rattle.annotation_conf.specs.ConfText.{conf_text}
 use Rattle.layer_model.specs.Annotations.{Annotations}
 use Rattle.ann_writer.specs.AnnOf.{ann_of}
 use Rattle.ann_writer.specs.Writable.{IsOfProgram}
-use Rattle.project_machine.specs.CommandBytes.{scripts_bytes}
+use Rattle.command_bytes.specs.CommandBytes.{scripts_bytes}
 use Rattle.project_machine.specs.Entries.{IsShort, document_piece, first_piece, flags_of, has_draft, held_piece, is_committed, pieces_of, row_pieces, rows_pieces, snapshot_pieces}
 use Rattle.project_machine.specs.Legal.{IsDocumentKept, IsKept, IsRowKept, IsSnapshotKept, IsSound}
 use Rattle.project_machine.specs.ProjectState.{Row, Document, Snapshot, ProjectState, annotators, document, no_document, text_of}
-use Rattle.project_machine.specs.Typed.{IsDocText, IsTypedLayer}
+use Rattle.command_bytes.specs.CommandValues.{IsTypedLayer}
+use Rattle.project_machine.specs.RequestValues.{IsDocText}
 use Rattle.project_machine.proofs.NameLemmas.{filtered_part, part_sorted}
 use Rattle.project_state.proofs.EntriesProofs.AgainLemmas.{IsOfText}
 use Rattle.project_book.proofs.StatePiecesProofs.ConfLemmas.{ReadBack, conf_is_utf8}

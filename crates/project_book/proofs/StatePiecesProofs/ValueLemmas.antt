@@ -20,14 +20,14 @@ use Rattle.ann_writer.specs.AnnOf.{ann_of}
 use Rattle.unanimous_merge.specs.declared.item.ItemId.{ItemId}
 use Rattle.curator_decisions.specs.declared.verdict.Verdict.{Verdict}
 use Rattle.curator_decisions.specs.declared.verdict.Verdict.TheVariants.{Accept, Reject}
-use Rattle.project_machine.specs.declared.read_commands.Scripts.{Scripts}
-use Rattle.project_machine.specs.CommandBytes.{list_bytes, scripts_bytes}
-use Rattle.project_machine.specs.CommandFields.{CanBeWritten, IsReadAgain}
-use Rattle.project_machine.specs.CommandReading.{layer_in, scripts_of}
+use Rattle.command_bytes.specs.declared.read_commands.Scripts.{Scripts}
+use Rattle.command_bytes.specs.CommandBytes.{list_bytes, scripts_bytes}
+use Rattle.command_bytes.specs.WritableCommands.{CanBeWritten, IsReadAgain}
+use Rattle.command_bytes.specs.CommandReading.{layer_in, scripts_of}
 use Rattle.project_machine.specs.Entries.{accepts, flags_of, has_draft, held_piece, is_committed, snapshot_pieces, verdict_bytes}
 use Rattle.project_machine.specs.Legal.{IsRowKept, IsSnapshotKept, LayerObeys}
 use Rattle.project_machine.specs.ProjectState.{Row, Snapshot, ProjectState, text_of}
-use Rattle.project_machine.specs.Typed.{AreCommands}
+use Rattle.command_bytes.specs.CommandValues.{AreCommands}
 use Rattle.project_state.specs.Entries.Reading.{ReadsScripts}
 use Rattle.project_state.proofs.EntriesProofs.AgainLemmas.{IsOfText, LoadsAreRead, ReadAgain, TypedAreRead, scripts_are}
 use Rattle.project_book.proofs.StatePiecesProofs.PieceEntries.{draft_long, held_long, of_program, row_short}

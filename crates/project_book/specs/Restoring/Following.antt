@@ -11,7 +11,7 @@ use Rattle.annotation_conf.specs.Configurations.{Configuration}
 use Rattle.annotation_conf.specs.ConfText.{conf_text}
 use Rattle.entry_bytes.specs.declared.person.Person.{Person}
 use Rattle.project_state.specs.declared.entries.founding.Founding.{Founding}
-use Rattle.project_machine.specs.CommandBytes.{list_bytes, scripts_bytes}
+use Rattle.command_bytes.specs.CommandBytes.{list_bytes, scripts_bytes}
 use Rattle.project_machine.specs.Entries.{document_piece, first_piece, has_draft, pieces_of, verdict_bytes}
 use Rattle.project_machine.specs.Legal.{IsAccepted, IsRowKept, IsSnapshotKept, IsSound, LayerObeys}
 use Rattle.project_machine.specs.ProjectState.{Row, ProjectState, Snapshot, annotators, document, is_annotator}

@@ -6,9 +6,9 @@ use Rattle.layer_model.specs.Annotations.{Annotations, no_marks}
 use Rattle.layer_core.specs.declared.command.Command.{Command}
 use Rattle.layer_core.specs.WellFormed.{Obeys}
 use Rattle.layer_undo.specs.Replays.{first_refusal}
-use Rattle.project_machine.specs.CommandBytes.{scripts_bytes}
+use Rattle.command_bytes.specs.CommandBytes.{scripts_bytes}
 use Rattle.project_machine.specs.ProjectState.{Row, ProjectState, Snapshot, is_annotator, is_some_out}
-use Rattle.project_machine.specs.Typed.{IsTypedLayer}
+use Rattle.command_bytes.specs.CommandValues.{IsTypedLayer}
 use Rattle.project_machine.specs.Legal.{IsAccepted, IsSnapshotKept}
 
 -- a layer obeys, and no command of two scripts is refused from it

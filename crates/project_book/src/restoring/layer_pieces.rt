@@ -5,12 +5,12 @@ ghost use Rattle.layer_model.specs.Coherent.{IsCoherent};
 use ann_reader::{AnnFault, read_ann};
 use annotation_conf::Conf;
 use char_documents::Doc;
+use command_bytes::{Scripts, read_scripts};
 use curator_decisions::Verdict;
 use entry_bytes::Entry;
 use layer_core::well_formed_layers_cohere;
 use layer_model::Layer;
 use mark_base::{AnnId, Kind, Memory, Slug, Text};
-use project_state::{Scripts, read_scripts};
 use std::alloc::Global;
 use unanimous_merge::ItemId;
 

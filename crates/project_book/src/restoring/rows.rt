@@ -6,10 +6,11 @@ use crate::restoring::layer_pieces::{draft_in, layer_in};
 use crate::restoring::pieces::{RowPiece, document_in, next_piece, row_in, tag_at};
 use annotation_conf::Conf;
 use char_documents::Doc;
+use command_bytes::Scripts;
 use layer_model::Layer;
 use layer_undo::Script;
 use mark_base::{Bytes, Memory, Slug};
-use project_state::{Scripts, StoredDocument, StoredRow};
+use project_state::{StoredDocument, StoredRow};
 use std::alloc::Global;
 use std::sync::Arc;
 

@@ -5,7 +5,7 @@ ghost use Rattle.std.specs.List.{All};
 ghost use Rattle.entry_bytes.specs.Fields.{IsSlug};
 ghost use Rattle.layer_model.specs.Annotations.{no_marks};
 ghost use Rattle.project_machine.specs.Legal.{IsDocumentKept, IsRowKept};
-ghost use Rattle.project_machine.specs.Typed.{IsDocText};
+ghost use Rattle.project_machine.specs.RequestValues.{IsDocText};
 ghost use Rattle.project_book.specs.Restoring.Kept.{HasObeyed, IsCounted, IsFitting};
 
 use crate::restoring::layers_kept::{draft_fits, is_blank, lines_fit, obeys_with};

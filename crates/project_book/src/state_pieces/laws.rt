@@ -8,11 +8,11 @@ ghost use Rattle.project_machine.specs.ProjectState.{ProjectState};
 
 use ann_writer::written_layers_are_utf8;
 use annotation_conf::sound_configurations_are_read_back;
-use entry_bytes::entries_are_told_apart;
-use project_state::{
+use command_bytes::{
     accepted_scripts_can_be_written, loads_are_read_again, scripts_are_told_apart,
     typed_scripts_are_read_again,
 };
+use entry_bytes::entries_are_told_apart;
 
 /// The pieces of a state that can be restored tell it: they are the entries of the history that begins with it, and
 /// each history whose entries begin with them begins with it. So no two states have the same pieces.

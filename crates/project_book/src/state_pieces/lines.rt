@@ -1,7 +1,6 @@
 //! Lines, commands and verdicts, as pieces hold them.
 ghost use Rattle.std.specs.Prelude.{◌≡◌, IfOk, IsUtf8, length};
 ghost use Rattle.layer_core.specs.WellFormed.{IsWellFormed};
-ghost use Rattle.layer_model.specs.Classes.{letter_place};
 ghost use Rattle.ann_writer.specs.AnnOf.{ann_of};
 ghost use Rattle.project_machine.specs.Entries.{accepts};
 
@@ -10,7 +9,7 @@ use annotation_conf::Conf;
 use char_documents::Doc;
 use curator_decisions::Verdict;
 use layer_model::Layer;
-use mark_base::{Bytes, Kind, Memory, Text};
+use mark_base::{Bytes, Memory, Text};
 use std::alloc::Global;
 
 /// The text that bytes are in UTF-8; they are not copied.
@@ -31,21 +30,6 @@ pub(crate) fn lines_of(alloc: Global, layer: &Layer, doc: &Doc, conf: &Conf) -> 
 {
     let lines = ann_bytes(alloc, layer, doc, conf)?;
     Ok(text_from(lines))
-}
-
-/// The place of a letter among T, E, R, A, M, N and #, from 0.
-pub(crate) fn letter_place(kind: Kind) -> u8
-    ensures { result ≡ letter_place kind }
-{
-    match kind {
-        Kind::Text => 0,
-        Kind::Event => 1,
-        Kind::Relation => 2,
-        Kind::Attribute => 3,
-        Kind::Legacy => 4,
-        Kind::Normal => 5,
-        Kind::Note => 6,
-    }
 }
 
 /// Whether an item is accepted.

@@ -5,8 +5,8 @@ ghost use Rattle.std.specs.Arc.{arc_value};
 ghost use Rattle.ann_writer.specs.AnnOf.{ann_of};
 ghost use Rattle.entry_bytes.specs.Entries.{entry_bytes};
 ghost use Rattle.layer_core.specs.WellFormed.{IsWellFormed};
-ghost use Rattle.project_machine.specs.CommandBytes.{scripts_bytes};
-ghost use Rattle.project_machine.specs.CommandFields.{CanBeWritten};
+ghost use Rattle.command_bytes.specs.CommandBytes.{scripts_bytes};
+ghost use Rattle.command_bytes.specs.WritableCommands.{CanBeWritten};
 ghost use Rattle.project_machine.specs.Entries.{flags_of, has_draft, is_committed, pieces_where, row_pieces, rows_pieces};
 ghost use Rattle.project_machine.specs.Legal.{IsKept, IsRowKept};
 ghost use Rattle.project_machine.specs.ProjectState.{annotators, document, row_at};
@@ -15,11 +15,10 @@ use crate::state_pieces::lines::lines_of;
 use crate::state_pieces::run::Run;
 use annotation_conf::Conf;
 use char_documents::Doc;
+use command_bytes::{accepted_scripts_can_be_written, write_scripts};
 use entry_bytes::{Entry, Person};
 use mark_base::{Memory, Slug};
-use project_state::{
-    BookState, StoredDocument, StoredRow, accepted_scripts_can_be_written, write_scripts,
-};
+use project_state::{BookState, StoredDocument, StoredRow};
 use std::alloc::Global;
 use std::sync::Arc;
 

@@ -16,11 +16,11 @@ use Rattle.ann_reader.specs.AnnFiles.{IsAnn}
 use Rattle.ann_reader.specs.LineFaults.{Fault}
 use Rattle.ann_writer.specs.AnnOf.{ann_of}
 use Rattle.ann_writer.specs.Writable.{IsOfProgram}
-use Rattle.project_machine.specs.declared.read_commands.Scripts.{Scripts}
-use Rattle.project_machine.specs.CommandBytes.{command_bytes, script_bytes, scripts_bytes}
-use Rattle.project_machine.specs.CommandFields.{CanBeWritten, LoadsAgain, IsReadAgain, IsScript, AreScripts}
-use Rattle.project_machine.specs.CommandReading.{scripts_of}
-use Rattle.project_machine.specs.Typed.{AreCommands, IsCommand, IsTypedLayer}
+use Rattle.command_bytes.specs.declared.read_commands.Scripts.{Scripts}
+use Rattle.command_bytes.specs.CommandBytes.{command_bytes, script_bytes, scripts_bytes}
+use Rattle.command_bytes.specs.WritableCommands.{CanBeWritten, LoadsAgain, IsReadAgain, IsScript, AreScripts}
+use Rattle.command_bytes.specs.CommandReading.{scripts_of}
+use Rattle.command_bytes.specs.CommandValues.{AreCommands, IsCommand, IsTypedLayer}
 use Rattle.project_state.specs.Entries.Reading.{ReadsLayer, ReadsScripts}
 use Rattle.project_state.proofs.EntriesProofs.SizeLemmas.{text_size}
 

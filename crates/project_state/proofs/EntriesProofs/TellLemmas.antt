@@ -21,13 +21,13 @@ use Rattle.curator_decisions.specs.declared.verdict.Verdict.{Verdict}
 use Rattle.curator_decisions.specs.declared.verdict.Verdict.TheVariants.{Accept, Reject}
 use Rattle.project_machine.specs.declared.book_refusal.BookRefusal.{BookRefusal}
 use Rattle.project_machine.specs.AskedFor.{asked_for}
-use Rattle.project_machine.specs.CommandFields.{CanBeWritten}
-use Rattle.project_machine.specs.CommandReading.{id_of}
+use Rattle.command_bytes.specs.WritableCommands.{CanBeWritten}
+use Rattle.command_bytes.specs.CommandReading.{id_of}
 use Rattle.project_machine.specs.Entries.{accepts, encoded_text, entry_of}
 use Rattle.project_machine.specs.Machine.{Step, bounded, change, refusal, refused, reply, size_in, size_of, step, unless}
 use Rattle.project_machine.specs.ProjectState.{ProjectState, document, holder_name, number_of, snapshot}
 use Rattle.project_machine.specs.Requests.{Asked, AddText, Checkout, TakeOver, Commit, Park, Finish, Reopen, Ignore, Readmit, Snap, Decide, Undecide, Answered, Happened, Founded, TextAdded, CheckedOut, TakenOver, LayerCommitted, LayerParked, LayerFinished, LayerReopened, LayerIgnored, LayerReadmitted, SnapshotTaken, ItemDecided, ItemUndecided, AllFreed, Restored}
-use Rattle.project_machine.specs.Typed.{IsDocText}
+use Rattle.project_machine.specs.RequestValues.{IsDocText}
 use Rattle.project_state.specs.declared.entries.asking.Asking.{Asking}
 use Rattle.project_state.specs.Entries.Asking.{plain_asking, verdict_of, CanBeNext}
 use Rattle.project_state.specs.Entries.Reading.{AsksOf, Reads}

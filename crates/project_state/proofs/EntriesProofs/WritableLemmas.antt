@@ -13,7 +13,7 @@ use Rattle.layer_undo.specs.Replays.{first_refusal}
 use Rattle.project_machine.specs.declared.book_refusal.BookRefusal.{BookRefusal}
 use Rattle.project_machine.specs.declared.book_refusal.BookRefusal.TheVariants as no
 use Rattle.project_machine.specs.declared.book_refusal.Policy.TheVariants as policy
-use Rattle.project_machine.specs.CommandFields.{CanBeWritten}
+use Rattle.command_bytes.specs.WritableCommands.{CanBeWritten}
 use Rattle.project_machine.specs.Machine.{change, commit_rule, first_of, held, park_rule, policies, refusal, size_of, tests, there, when}
 use Rattle.project_machine.specs.ProjectState.{ProjectState, document, holder_of, is_annotator, is_curator, is_there, number_of, row_in, snapshot}
 use Rattle.project_machine.specs.Requests.{Asked, ReadConf, ListDocs, ReadText, AddText, Checkout, TakeOver, Commit, Park, Finish, ReadLayer, Reopen, Ignore, Readmit, Snap, TakeSnapshot, Decide, Undecide, ReadPairs, ReadAlpha, Happened, TextAdded, CheckedOut, TakenOver, LayerCommitted, LayerParked, LayerFinished, LayerReopened, LayerIgnored, LayerReadmitted, SnapshotTaken, ItemDecided, ItemUndecided}

@@ -9,13 +9,13 @@ use Rattle.layer_model.specs.Annotations.{Annotations}
 use Rattle.layer_core.specs.declared.command.Command.{Command}
 use Rattle.layer_core.specs.WellFormed.{IsWellFormed}
 use Rattle.ann_writer.specs.AnnOf.{ann_of}
-use Rattle.project_machine.specs.declared.read_commands.Scripts.{Scripts}
-use Rattle.project_machine.specs.CommandBytes.{scripts_bytes}
-use Rattle.project_machine.specs.CommandFields.{CanBeWritten}
-use Rattle.project_machine.specs.CommandReading.{id_of}
+use Rattle.command_bytes.specs.declared.read_commands.Scripts.{Scripts}
+use Rattle.command_bytes.specs.CommandBytes.{scripts_bytes}
+use Rattle.command_bytes.specs.WritableCommands.{CanBeWritten}
+use Rattle.command_bytes.specs.CommandReading.{id_of}
 use Rattle.project_machine.specs.ProjectState.{ProjectState, document, holder_name, snapshot}
 use Rattle.project_machine.specs.Requests.{Asked, AddText, Checkout, TakeOver, Commit, Park, Finish, Reopen, Ignore, Readmit, Snap, Decide, Undecide}
-use Rattle.project_machine.specs.Typed.{AreCommands, IsTypedLayer}
+use Rattle.command_bytes.specs.CommandValues.{AreCommands, IsTypedLayer}
 use Rattle.project_state.specs.declared.request.Request.{Request}
 use Rattle.project_state.specs.declared.entries.asking.Asking.{Asking}
 use Rattle.project_state.specs.Entries.Asking.{plain_asking, verdict_of}

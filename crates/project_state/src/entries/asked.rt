@@ -7,11 +7,12 @@ ghost use Rattle.project_state.specs.Entries.Reading.{Reads};
 
 use crate::entries::asking::Asking;
 use crate::entries::documents::{document_at, document_name};
-use crate::entries::letters::{id_of, verdict_of};
 use crate::entries::lines::{layer_read, scripts_read};
 use crate::entries::snapshots::holder_name;
+use crate::entries::verdicts::verdict_of;
 use crate::{BookState, Request};
 use char_documents::{Doc, DocFault};
+use command_bytes::id_of;
 use mark_base::{Bytes, Memory, Slug, Text};
 use std::alloc::Global;
 use std::sync::Arc;

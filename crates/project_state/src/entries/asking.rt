@@ -8,7 +8,8 @@ use crate::entries::asked::{
     ignore_asked, park_asked, readmit_asked, reopen_asked, snap_asked, take_over_asked,
     undecide_asked,
 };
-use crate::{BookState, Request, accepted_scripts_can_be_written};
+use crate::{BookState, Request};
+use command_bytes::accepted_scripts_can_be_written;
 use entry_bytes::Entry;
 use layer_core::unflawed_layers;
 use mark_base::{Memory, Slug};

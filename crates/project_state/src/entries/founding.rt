@@ -13,6 +13,7 @@ ghost use Rattle.project_machine.specs.Requests.{Founded};
 ghost use Rattle.project_state.specs.Entries.Founding.{founded, IsFoundingOf, IsReadBack};
 ghost use Rattle.project_state.specs.Entries.FoundingReading.{ReadsFields, ReadsFounding};
 
+use crate::limits::LONGEST_CONF;
 use crate::{Roster, RosterFault, rosters_can_found};
 use annotation_conf::{Conf, ConfFault, read_conf, sound_configurations_are_read_back, write_conf};
 use entry_bytes::{Entry, Person, PersonList};
@@ -50,7 +51,7 @@ fn conf_read(alloc: Global, text: &Text) -> Result<Option<Conf>, Memory>
     ensures told { IfOk result (λ found. (conf : Configuration) → IsReadBack conf → conf_text conf ≡ text.now → length text.now ≤ 4194304 → found ≡ Some conf) }
 {
     let bytes = text.text().as_bytes();
-    if bytes.len() > 4_194_304 {
+    if bytes.len() > LONGEST_CONF {
         return Ok(None);
     }
     match read_conf(alloc, bytes) {

@@ -2,21 +2,23 @@
 ghost use Rattle.std.specs.Prelude.{◌≡◌, ◌<◌, length, IfOk, IsUtf8};
 ghost use Rattle.std.specs.List.{AllByRecursion};
 ghost use Rattle.layer_core.specs.WellFormed.{IsWellFormed};
-ghost use Rattle.project_machine.specs.CommandBytes.{scripts_bytes};
-ghost use Rattle.project_machine.specs.CommandFields.{CanBeWritten};
+ghost use Rattle.command_bytes.specs.CommandBytes.{scripts_bytes};
+ghost use Rattle.command_bytes.specs.WritableCommands.{CanBeWritten};
 ghost use Rattle.project_machine.specs.Entries.{lines_in};
 ghost use Rattle.project_machine.specs.ProjectState.{document};
 ghost use Rattle.project_state.specs.Entries.Reading.{ReadsLayer, ReadsScripts};
 
+use crate::BookState;
 use crate::entries::documents::document_at;
-use crate::{
-    BookState, Scripts, loads_are_read_again, read_scripts, scripts_are_told_apart,
-    typed_scripts_are_read_again, write_scripts,
-};
+use crate::limits::LONGEST_LINES;
 use ann_reader::{AnnFault, at_most_one_layer, files_of_a_layer, read_ann};
 use ann_writer::{ann_bytes, written_layers_are_read_back};
 use annotation_conf::Conf;
 use char_documents::Doc;
+use command_bytes::{
+    Scripts, loads_are_read_again, read_scripts, scripts_are_told_apart,
+    typed_scripts_are_read_again, write_scripts,
+};
 use layer_model::Layer;
 use layer_undo::Script;
 use mark_base::{Bytes, Memory, Text};
@@ -88,7 +90,7 @@ pub(crate) fn layer_read(
     at_most_one_layer();
     written_layers_are_read_back();
     let bytes = lines.text().as_bytes();
-    if bytes.len() > 16_777_216 {
+    if bytes.len() > LONGEST_LINES {
         return Ok(None);
     }
     match read_ann(alloc, bytes, doc, conf) {

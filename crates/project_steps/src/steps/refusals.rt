@@ -13,7 +13,7 @@ use layer_core::{CheckFault, check, may_commit, unflawed_layers};
 use layer_model::{Layer, Rule};
 use layer_undo::{DeskStart, Script, check_scripts};
 use mark_base::{Memory, Slug};
-use project_state::{BookRefusal, BookState};
+use project_state::{BookRefusal, BookState, MOST_CHARACTERS, MOST_DOCUMENTS};
 use std::alloc::Global;
 use std::sync::Arc;
 
@@ -96,8 +96,8 @@ fn held(state: &BookState, name: &Slug, who: &Slug, hold: u64) -> Option<BookRef
 fn is_full(state: &BookState, text: &Doc) -> bool
     ensures { result ≡ is_full state.now.state text.now }
 {
-    4096 <= state.document_list().len()
-        || 16_777_216 < state.characters() + u64::from(text.char_count())
+    MOST_DOCUMENTS <= state.document_list().len()
+        || MOST_CHARACTERS < state.characters() + u64::from(text.char_count())
 }
 
 /// A snapshot of this number must have been taken.

@@ -1,6 +1,6 @@
 //! What a refusal names.
 ghost use Rattle.std.specs.Prelude.{◌≡◌, ◌++◌, ◌-◌, [], IfOk, codes, decimal, get_or, unwrap_or};
-ghost use Rattle.layer_core.specs.ShownNames.{id_text, named_by_rule};
+ghost use Rattle.layer_core.specs.NamedByRule.{id_text, named_by_rule};
 ghost use Rattle.layer_model.specs.Annotations.{no_marks};
 ghost use Rattle.project_machine.specs.Machine.{fault_text, of_text, policy_text};
 ghost use Rattle.project_machine.specs.ProjectState.{no_snapshot, snapshot};

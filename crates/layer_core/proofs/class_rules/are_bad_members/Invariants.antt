@@ -1,5 +1,5 @@
 use Rattle.std.proofs.Common.{◌≡◌, length}
-use Rattle.layer_core.specs.PairRules.{are_bad_members}
+use Rattle.layer_core.specs.LayerRules.{are_bad_members}
 use Rattle.layer_core.proofs.class_rules.are_bad_members.Given as goal
 
 abbrev pub invariant-loop-id : goal.invariant-loop-id

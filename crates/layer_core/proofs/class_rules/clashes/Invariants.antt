@@ -1,7 +1,7 @@
 use Rattle.std.proofs.Common.{◌≡◌, ◌||◌, not, drop}
 use Rattle.std.specs.List.{list_any}
 use Rattle.layer_core.specs.Targets.{type_of}
-use Rattle.layer_core.specs.PairRules.{is_id, may_be_equal}
+use Rattle.layer_core.specs.LayerRules.{is_id, may_be_equal}
 use Rattle.layer_core.proofs.class_rules.clashes.Given as goal
 
 abbrev pub invariant-loop-other : goal.invariant-loop-other

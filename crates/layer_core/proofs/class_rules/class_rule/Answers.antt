@@ -1,5 +1,5 @@
 use Rattle.std.proofs.Common.{map, ap, ◌∙◌}
-use Rattle.layer_core.specs.Rules.{first_missing, first_unwanted, member}
+use Rattle.layer_core.specs.MarkRules.{first_missing, first_unwanted, member}
 use Rattle.layer_core.proofs.RecordLemmas.{four}
 use Rattle.layer_core.proofs.class_rules.class_rule.Goals as goal
 

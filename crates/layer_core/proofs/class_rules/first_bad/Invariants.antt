@@ -1,5 +1,5 @@
 use Rattle.std.proofs.Common.{◌≡◌, drop}
-use Rattle.layer_core.specs.PairRules.{equiv_members}
+use Rattle.layer_core.specs.LayerRules.{equiv_members}
 use Rattle.layer_core.specs.LowestFlaw.{first_from}
 use Rattle.layer_core.proofs.class_rules.first_bad.Given as goal
 

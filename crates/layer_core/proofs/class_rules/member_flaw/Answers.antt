@@ -1,5 +1,5 @@
 use Rattle.std.proofs.Common.{sym, ◌∙◌, ap}
-use Rattle.layer_core.specs.PairRules.{equiv_members}
+use Rattle.layer_core.specs.LayerRules.{equiv_members}
 use Rattle.layer_core.specs.LowestFlaw.{first_from}
 use Rattle.layer_core.proofs.PassLemmas.{only_classes}
 use Rattle.layer_core.proofs.class_rules.member_flaw.Goals as goal

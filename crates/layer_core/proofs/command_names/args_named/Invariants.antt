@@ -1,5 +1,5 @@
 use Rattle.std.proofs.Common.{◌≡◌, ◌++◌, drop, option_map}
-use Rattle.layer_core.specs.CommandFields.{args_named}
+use Rattle.layer_core.specs.CommandRules.{args_named}
 use Rattle.layer_core.proofs.command_names.args_named.Given as goal
 
 abbrev pub invariant-loop-arg : goal.invariant-loop-arg

@@ -1,6 +1,6 @@
 use Rattle.std.proofs.Common.{◌≡◌, drop}
 use Rattle.std.specs.List.{list_any}
-use Rattle.layer_core.specs.CommandFields.{role_undeclared}
+use Rattle.layer_core.specs.CommandRules.{role_undeclared}
 use Rattle.layer_core.proofs.command_names.some_role_undeclared.Given as goal
 
 abbrev pub invariant-loop-arg : goal.invariant-loop-arg

@@ -6,7 +6,7 @@ use Rattle.annotation_conf.specs.Lookups.{role_least, roles_of}
 use Rattle.layer_model.specs.declared.rule.Rule.TheVariants.{TooFew}
 use Rattle.layer_model.specs.declared.rule.RoleAt.TheVariants as role
 use Rattle.mark_base.specs.ReadIds.{id_at}
-use Rattle.layer_core.specs.Rules.{filled}
+use Rattle.layer_core.specs.MarkRules.{filled}
 use Rattle.layer_core.proofs.RecordLemmas.{found_in_range, passed_in_range, same_rule}
 use Rattle.layer_core.proofs.commit.too_few.Goals as goal
 

@@ -1,7 +1,7 @@
 use Rattle.std.proofs.Common.{◌≡◌, ◌-◌, nat_lt, length}
 use Rattle.std.specs.List.{find, range_with_len}
 use Rattle.annotation_conf.specs.Lookups.{role_least, roles_of}
-use Rattle.layer_core.specs.Rules.{filled}
+use Rattle.layer_core.specs.MarkRules.{filled}
 use Rattle.layer_core.proofs.commit.too_few.Given as goal
 
 abbrev pub invariant-loop-role : goal.invariant-loop-role

@@ -4,7 +4,7 @@ use Rattle.layer_model.specs.declared.event.Event.{Event}
 use Rattle.layer_model.specs.declared.mark.Mark.{Mark}
 use Rattle.layer_model.specs.declared.mark.Mark.TheVariants as marked
 use Rattle.layer_model.specs.Annotations.{Annotations}
-use Rattle.layer_core.specs.PairRules.{too_deep}
+use Rattle.layer_core.specs.LayerRules.{too_deep}
 use Rattle.layer_core.proofs.PassLemmas.{only_events}
 use Rattle.layer_core.proofs.event_chains.deep_flaw.Goals as goal
 

@@ -1,6 +1,6 @@
 use Rattle.std.proofs.Common.{◌≡◌, sym, ◌∙◌, ap, true, false, ◌&&◌}
 use Rattle.std.specs.List.{list_any}
-use Rattle.layer_core.specs.PairRules.{is_event_id}
+use Rattle.layer_core.specs.LayerRules.{is_event_id}
 use Rattle.layer_core.specs.EventChains.{is_held}
 use Rattle.layer_core.proofs.ChainLemmas.{leads, leads_is, round_begins, round_on, round_past, round_ends}
 use Rattle.layer_core.proofs.event_chains.deeper.Goals as goal

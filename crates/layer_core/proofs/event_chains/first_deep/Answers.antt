@@ -2,7 +2,7 @@ use Rattle.std.proofs.Common.{ap}
 use Rattle.mark_base.specs.declared.ann_id.Kind.TheVariants as letter
 use Rattle.layer_model.specs.declared.mark.Mark.TheVariants as marked
 use Rattle.mark_base.specs.ReadIds.{id_at}
-use Rattle.layer_core.specs.PairRules.{too_deep}
+use Rattle.layer_core.specs.LayerRules.{too_deep}
 use Rattle.layer_core.specs.LowestFlaw.{first_among}
 use Rattle.layer_core.proofs.PlaceLemmas.{all_entries}
 use Rattle.layer_core.proofs.event_chains.first_deep.Goals as goal

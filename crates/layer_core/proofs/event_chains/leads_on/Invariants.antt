@@ -1,6 +1,6 @@
 use Rattle.std.proofs.Common.{◌≡◌, ◌&&◌, drop}
 use Rattle.std.specs.List.{list_any}
-use Rattle.layer_core.specs.PairRules.{is_event_id}
+use Rattle.layer_core.specs.LayerRules.{is_event_id}
 use Rattle.layer_core.specs.EventChains.{is_held}
 use Rattle.layer_core.proofs.event_chains.leads_on.Given as goal
 

@@ -2,7 +2,7 @@ use Rattle.std.proofs.Common.{◌≡◌, drop, find}
 use Rattle.std.specs.Prelude.{false}
 use Rattle.std.specs.Option.{option_map_or}
 use Rattle.layer_model.specs.Layers.{mark_at}
-use Rattle.layer_core.specs.CommandFields.{is_attribute_on}
+use Rattle.layer_core.specs.CommandRules.{is_attribute_on}
 use Rattle.layer_core.proofs.first_annotation.first_on.Given as goal
 
 abbrev pub invariant-loop-id : goal.invariant-loop-id

@@ -1,7 +1,7 @@
 use Rattle.std.proofs.Common.{◌-◌, ◌∙◌, ap, slice_get}
 use Rattle.std.specs.FinMap as finite
 use Rattle.mark_base.specs.declared.ann_id.Kind.TheVariants as letter
-use Rattle.layer_core.specs.PairRules.{classes_full}
+use Rattle.layer_core.specs.LayerRules.{classes_full}
 use Rattle.layer_core.specs.LowestFlaw.{first_from, full_at}
 use Rattle.layer_core.proofs.FullLemmas.{full_found}
 use Rattle.layer_core.proofs.layer_full.full_flaw.Goals as goal

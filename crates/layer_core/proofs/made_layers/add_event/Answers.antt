@@ -1,5 +1,5 @@
 use Rattle.std.proofs.Common.{◌≡◌, true, Some, option_map, sym, ◌∙◌, ap, rules}
-use Rattle.layer_core.specs.CommandFields.{args_named, event_named, is_span_letter}
+use Rattle.layer_core.specs.CommandRules.{args_named, event_named, is_span_letter}
 use Rattle.layer_core.proofs.DeskLemmas.{one_event}
 use Rattle.layer_core.proofs.made_layers.add_event.Goals as goal
 

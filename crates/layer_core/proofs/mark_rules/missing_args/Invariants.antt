@@ -1,5 +1,5 @@
 use Rattle.std.proofs.Common.{◌≡◌, drop, map}
-use Rattle.layer_core.specs.Rules.{first_missing}
+use Rattle.layer_core.specs.MarkRules.{first_missing}
 use Rattle.layer_core.proofs.mark_rules.missing_args.Given as goal
 
 abbrev pub invariant-loop-arg : goal.invariant-loop-arg

@@ -1,6 +1,6 @@
 use Rattle.std.proofs.Common.{◌≡◌, drop}
 use Rattle.std.specs.List.{find}
-use Rattle.layer_core.specs.Rules.{is_refused_argument}
+use Rattle.layer_core.specs.MarkRules.{is_refused_argument}
 use Rattle.layer_core.proofs.mark_rules.refused_in.Given as goal
 
 abbrev pub invariant-loop-arg : goal.invariant-loop-arg

@@ -4,7 +4,7 @@ use Rattle.std.proofs.lemmas.Bool.{lt-ltb, le-ltb}
 use Rattle.annotation_conf.specs.Lookups.{role_most, roles_of}
 use Rattle.layer_model.specs.declared.rule.Rule.TheVariants.{TooMany}
 use Rattle.layer_model.specs.declared.rule.RoleAt.TheVariants as role
-use Rattle.layer_core.specs.Rules.{filled}
+use Rattle.layer_core.specs.MarkRules.{filled}
 use Rattle.layer_core.proofs.RecordLemmas.{found_in_range, passed_in_range}
 use Rattle.layer_core.proofs.mark_rules.too_many.Goals as goal
 

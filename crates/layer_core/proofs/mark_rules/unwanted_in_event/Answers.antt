@@ -2,7 +2,7 @@ use Rattle.std.proofs.Common.{not, map}
 use Rattle.mark_base.specs.declared.ann_id.Kind.TheVariants.{Text}
 use Rattle.layer_model.specs.declared.rule.Rule.TheVariants.{WrongKind}
 use Rattle.mark_base.specs.ReadIds.{id_at}
-use Rattle.layer_core.specs.Rules.{argument, trigger}
+use Rattle.layer_core.specs.MarkRules.{argument, trigger}
 use Rattle.layer_core.proofs.RecordLemmas.{first_split}
 use Rattle.layer_core.proofs.mark_rules.unwanted_in_event.Goals as goal
 

@@ -1,5 +1,5 @@
 use Rattle.std.proofs.Common.{◌≡◌, drop, map}
-use Rattle.layer_core.specs.Rules.{first_unwanted, member}
+use Rattle.layer_core.specs.MarkRules.{first_unwanted, member}
 use Rattle.layer_core.proofs.mark_rules.unwanted_members.Given as goal
 
 abbrev pub invariant-loop-id : goal.invariant-loop-id

@@ -3,7 +3,7 @@ use Rattle.std.specs.Option.{IfSome}
 use Rattle.std.proofs.lemmas.List.{get_or_default, take_more}
 use Rattle.layer_model.specs.Annotations.{Annotations}
 use Rattle.layer_model.specs.Coherent.{IsCoherent}
-use Rattle.match_scores.specs.declared.marks.Marks.{Marks}
+use Rattle.match_scores.specs.declared.layer_in_table.Marks.{Marks}
 use Rattle.match_scores.specs.Places.{AreMarked}
 use Rattle.match_scores.proofs.DocumentLemmas.{marked_same}
 use Rattle.match_scores.proofs.MarkLemmas.{marked_kept, marked_none, marked_push}

@@ -16,9 +16,9 @@ use Rattle.layer_model.specs.declared.rule.Rule.{Rule}
 use Rattle.project_machine.specs.declared.book_refusal.BookRefusal.TheVariants as no
 use Rattle.project_machine.specs.People.{IsRoster}
 use Rattle.project_machine.specs.ProjectState.{ProjectState}
-use Rattle.project_machine.specs.CommandBytes.{script_bytes}
+use Rattle.command_bytes.specs.CommandBytes.{script_bytes}
 use Rattle.project_machine.specs.Requests.{AddText, Checkout, TakeOver, Commit, Park, Finish, Snap, Committed, TextAdded, CheckedOut, TakenOver, LayerCommitted, LayerParked, LayerFinished, SnapshotTaken}
-use Rattle.project_machine.specs.Typed.{IsDocText}
+use Rattle.project_machine.specs.RequestValues.{IsDocText}
 use Rattle.project_machine.specs.Machine.{Step, refused, step, unless}
 use Rattle.project_machine.specs.History.{unfounded, upto}
 use Rattle.project_machine.specs.Legal.{IsFounding, legal_founding, legal_step}

@@ -8,7 +8,7 @@ use Rattle.char_documents.specs.Tokens.{tokens_of}
 use Rattle.layer_model.specs.Annotations.{no_marks}
 use Rattle.layer_model.specs.declared.rule.Rule.{Rule}
 use Rattle.project_machine.specs.declared.book_refusal.BookRefusal.TheVariants as no
-use Rattle.project_machine.specs.CommandBytes.{script_bytes}
+use Rattle.command_bytes.specs.CommandBytes.{script_bytes}
 use Rattle.project_machine.specs.Requests.{Commit, Committed, LayerCommitted}
 use Rattle.project_machine.specs.History.{unfounded}
 use Rattle.project_machine.specs.Machine.{Step, refused, unless}

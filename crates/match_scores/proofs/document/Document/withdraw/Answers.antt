@@ -1,6 +1,6 @@
 use Rattle.std.proofs.Common.{◌≡◌, List, Option, None, length, length-set, set, sym, ap, ◌∙◌}
 use Rattle.std.proofs.lemmas.List.{with_items_is}
-use Rattle.match_scores.specs.declared.marks.Marks.{Marks}
+use Rattle.match_scores.specs.declared.layer_in_table.Marks.{Marks}
 use Rattle.match_scores.proofs.DocumentLemmas.{marked_same, seat_enough, seat_room, seat_shifts, will}
 use Rattle.match_scores.proofs.document.Document.withdraw.Goals as goal
 

@@ -2,7 +2,7 @@ use Rattle.std.proofs.Common.{◌≡◌, Bool, List, true, length, subst, ◌∙
 use Rattle.std.specs.Arc.{arc_value}
 use Rattle.layer_model.specs.Annotations.{Annotations}
 use Rattle.layer_core.specs.declared.command.Command.{Command}
-use Rattle.project_machine.specs.Typed.{AreCommands, IsTypedLayer}
+use Rattle.command_bytes.specs.CommandValues.{AreCommands, IsTypedLayer}
 use Rattle.project_machine.specs.Legal.{IsRowKept}
 use Rattle.project_book.specs.Restoring.Kept.{HasObeyed, IsCounted, IsFitting}
 use Rattle.project_book.proofs.RestoringProofs.KeptLemmas.{row_kept}

@@ -1,6 +1,6 @@
 use Rattle.std.proofs.Common.{sym, ◌∙◌, ap, subst}
 use Rattle.std.specs.Prelude.{chars, IsUtf8}
-use Rattle.project_machine.specs.CommandReading.{scripts_of}
+use Rattle.command_bytes.specs.CommandReading.{scripts_of}
 use Rattle.project_state.proofs.EntriesProofs.AgainLemmas.{IsOfText, scripts_are}
 use Rattle.project_state.proofs.entries.lines.scripts_read.Goals as goal
 

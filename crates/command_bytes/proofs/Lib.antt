@@ -1,0 +1,11 @@
+mod AcceptedLemmas
+mod CommandLemmas
+mod FieldLemmas
+mod IdLemmas
+mod ListLemmas
+mod LoadLemmas
+mod NameLemmas
+mod ScriptLemmas
+mod ScriptsReadLemmas
+mod Utf8Lemmas
+mod ValueLemmas

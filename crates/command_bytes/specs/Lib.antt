@@ -1,0 +1,4 @@
+pub mod CommandBytes
+pub mod CommandReading
+pub mod CommandValues
+pub mod WritableCommands

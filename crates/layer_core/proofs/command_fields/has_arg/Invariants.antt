@@ -1,7 +1,0 @@
-use Rattle.std.proofs.Common.{◌≡◌, drop}
-use Rattle.std.specs.List.{list_any}
-use Rattle.layer_core.specs.PairRules.{is_arg}
-use Rattle.layer_core.proofs.command_fields.has_arg.Given as goal
-
-abbrev pub invariant-loop-arg : goal.invariant-loop-arg
-invariant-loop-arg l = list_any (is_arg l.wanted) (drop l.arg-index l.args) ≡ list_any (is_arg l.wanted) l.args

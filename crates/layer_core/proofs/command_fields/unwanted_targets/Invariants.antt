@@ -1,7 +1,0 @@
-use Rattle.std.proofs.Common.{◌≡◌, drop, map}
-use Rattle.layer_core.specs.Rules.{first_unwanted, argument}
-use Rattle.layer_core.proofs.command_fields.unwanted_targets.Given as goal
-
-abbrev pub invariant-loop-arg : goal.invariant-loop-arg
-invariant-loop-arg l =
-    first_unwanted (map (λ arg. argument l.conf l.layer arg.target) (drop l.arg-index l.args)) ≡ first_unwanted (map (λ arg. argument l.conf l.layer arg.target) l.args)

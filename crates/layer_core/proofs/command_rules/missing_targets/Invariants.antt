@@ -1,0 +1,7 @@
+use Rattle.std.proofs.Common.{◌≡◌, drop, map}
+use Rattle.layer_core.specs.MarkRules.{first_missing}
+use Rattle.layer_core.proofs.command_rules.missing_targets.Given as goal
+
+abbrev pub invariant-loop-arg : goal.invariant-loop-arg
+invariant-loop-arg l =
+    first_missing l.layer (map (λ arg. arg.target) (drop l.arg-index l.args)) ≡ first_missing l.layer (map (λ arg. arg.target) l.args)

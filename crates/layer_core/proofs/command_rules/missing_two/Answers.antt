@@ -1,0 +1,8 @@
+use Rattle.std.proofs.Common.{[], ◌∷◌, not}
+use Rattle.layer_model.specs.Layers.{has}
+use Rattle.layer_model.specs.declared.rule.Rule.TheVariants.{NoSuch}
+use Rattle.layer_core.proofs.RecordLemmas.{first_split}
+use Rattle.layer_core.proofs.command_rules.missing_two.Goals as goal
+
+pub returns : goal.returns
+returns c = rw (c.or.ensures, c.missing.ensures, c.missing-2.ensures) (first_split NoSuch (λ id. not (has c.args.layer.now id)) c.args.id (c.args.target ∷ []))

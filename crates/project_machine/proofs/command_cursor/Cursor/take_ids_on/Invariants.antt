@@ -1,7 +1,0 @@
-use Rattle.std.proofs.Common.{◌≡◌, ◌-◌}
-use Rattle.project_machine.specs.CommandReading.{list_on, ann_id_at}
-use Rattle.project_machine.proofs.CommandLists.{with_front}
-use Rattle.project_machine.proofs.command_cursor.Cursor.take_ids_on.Given as goal
-
-abbrev pub invariant-loop : goal.invariant-loop
-invariant-loop l = with_front l.ids.items (list_on ann_id_at (l.count - l.counter) l.self) ≡ list_on ann_id_at l.count l.initial.self

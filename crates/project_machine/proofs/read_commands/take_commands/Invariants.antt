@@ -1,7 +1,0 @@
-use Rattle.std.proofs.Common.{◌≡◌, ◌-◌}
-use Rattle.project_machine.specs.CommandReading.{list_on, command_at}
-use Rattle.project_machine.proofs.CommandLists.{with_front}
-use Rattle.project_machine.proofs.read_commands.take_commands.Given as goal
-
-abbrev pub invariant-loop : goal.invariant-loop
-invariant-loop l = with_front l.commands.items (list_on (command_at l.conf l.doc) (l.count - l.counter) l.cursor) ≡ list_on (command_at l.conf l.doc) l.count l.initial.cursor

@@ -1,7 +1,0 @@
-use Rattle.std.proofs.Common.{take}
-use Rattle.std.specs.List.{AllByRecursion}
-use Rattle.project_machine.specs.Typed.{IsName}
-use Rattle.project_steps.proofs.steps.typed.args_are.Given as goal
-
-abbrev pub invariant-loop-arg : goal.invariant-loop-arg
-invariant-loop-arg l = AllByRecursion (λ arg. IsName arg.role) (take l.arg-index l.args)
