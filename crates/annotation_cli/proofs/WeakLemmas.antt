@@ -94,8 +94,7 @@ session_ends A B f old new left held now before written ending.Memory told = (to
 
 last_park : (A B : Type 0) → (B → A) → (connection : Connection) (old new : Visiting) → IsLastPark A connection old new → IsLastPark B connection old new
 last_park A B f Bare old new told = told
-last_park A B f (Holds held) old new (inl same) = inl same
-last_park A B f (Holds held) old new (inr (answered, visited, quiet)) = inr (answered, visited, λ b. quiet (f b))
+last_park A B f (Holds held) old new (answered, visited, quiet) = (answered, visited, λ b. quiet (f b))
 
 -- a connection that was served where the keeper cannot fail was served where less can
 pub serves : (A B : Type 0) → (B → A) → (start : Connection) (old new : Visiting) (left now before written : Option (List ℕ)) (done : Result (Unit {0}) Trouble)
@@ -112,6 +111,6 @@ serves A B f start old new left now before written done s = record {
     parked = last_park A B f s.told.behind.connection s.told.behind.visiting new s.told.parked;
     still = λ b. s.told.still (f b);
   };
-  layers_obey = s.layers_obey;
+  places = s.places;
   came = s.came;
 }

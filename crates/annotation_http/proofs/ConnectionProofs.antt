@@ -1,4 +1,5 @@
 pub mod FaultLemmas
+pub mod HeadlineLemmas
 pub mod HistoryLemmas
 pub mod ParkLemmas
 pub mod SessionLemmas

@@ -319,24 +319,20 @@ tells_one_history old new more ms gs legal run = record {
 
 park_on : (faultless : Type 0) (c : Connection) (old new : Visiting) → IsLastPark faultless c old new → GoesOn old.seen new.seen
 park_on faultless Bare old new same = ([], ap (λ (v : Visiting). v.seen) same ∙ sym (append-nil old.seen))
-park_on faultless (Holds held) old new (inl same) = ([], ap (λ (v : Visiting). v.seen) same ∙ sym (append-nil old.seen))
-park_on faultless (Holds held) old new (inr (answered, visited, quiet)) = visited_on old new held.who (Park held.doc held.hold held.desk.done held.desk.undone) answered visited
+park_on faultless (Holds held) old new (answered, visited, quiet) = visited_on old new held.who (Park held.doc held.hold held.desk.done held.desk.undone) answered visited
 
 abbrev park_own : (faultless : Type 0) (c : Connection) (old new : Visiting) → IsLastPark faultless c old new → List ℕ
 park_own faultless Bare old new same = []
-park_own faultless (Holds held) old new (inl same) = []
-park_own faultless (Holds held) old new (inr (answered, visited, quiet)) = gained (old.seen ++ visited.replied.others) new.seen
+park_own faultless (Holds held) old new (answered, visited, quiet) = gained (old.seen ++ visited.replied.others) new.seen
 
 park_mine : (faultless : Type 0) (c : Connection) (old new : Visiting) (parked : IsLastPark faultless c old new) → new.mine ≡ old.mine ++ park_own faultless c old new parked
 park_mine faultless Bare old new same = ap (λ (v : Visiting). v.mine) same ∙ sym (append-nil old.mine)
-park_mine faultless (Holds held) old new (inl same) = ap (λ (v : Visiting). v.mine) same ∙ sym (append-nil old.mine)
-park_mine faultless (Holds held) old new (inr (answered, visited, quiet)) = visited.replied.mine_is
+park_mine faultless (Holds held) old new (answered, visited, quiet) = visited.replied.mine_is
 
 park_told : (seen : List Happened) (faultless : Type 0) (c : Connection) (old new : Visiting) → IsLegal old.seen → GoesOn new.seen seen → (parked : IsLastPark faultless c old new)
     → ParkedBy seen (last old.seen) c (park_own faultless c old new parked) (last new.seen)
 park_told seen faultless Bare old new legal on same = subst (λ (v : Visiting). ParkedBy seen (last old.seen) Bare [] (last v.seen)) (sym same) told.holds_none
-park_told seen faultless (Holds held) old new legal on (inl same) = subst (λ (v : Visiting). ParkedBy seen (last old.seen) (Holds held) [] (last v.seen)) (sym same) (told.is_not_asked held)
-park_told seen faultless (Holds held) old new legal on (inr (answered, visited, quiet)) =
+park_told seen faultless (Holds held) old new legal on (answered, visited, quiet) =
     told.is_asked held answered (gained (old.seen ++ visited.replied.others) new.seen) (last new.seen)
     (visited_by seen old new held.who (Park held.doc held.hold held.desk.done held.desk.undone) answered legal on visited)
 

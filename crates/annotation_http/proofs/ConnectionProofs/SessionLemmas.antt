@@ -362,14 +362,12 @@ stops_at count place n why sent written end e told = subst (λ (k : ℕ). StopEn
 -- where no fault can come before the messages, none can come in the last park
 pub park_for : (first now : Type 0) (c : Connection) (old new : Visiting) → (first → now) → IsLastPark now c old new → IsLastPark first c old new
 park_for first now Bare old new stays same = same
-park_for first now (Holds held) old new stays (inl same) = inl same
-park_for first now (Holds held) old new stays (inr (answered, visited, quiet)) = inr (answered, visited, λ f. quiet (stays f))
+park_for first now (Holds held) old new stays (answered, visited, quiet) = (answered, visited, λ f. quiet (stays f))
 
 -- where none can come, it leaves the count of faults
 pub park_still : (faultless : Type 0) (c : Connection) (old new : Visiting) → IsLastPark faultless c old new → faultless → new.faults ≡ old.faults
 park_still faultless Bare old new same f = ap (λ (v : Visiting). v.faults) same
-park_still faultless (Holds held) old new (inl same) f = ap (λ (v : Visiting). v.faults) same
-park_still faultless (Holds held) old new (inr (answered, visited, quiet)) f = (quiet f).0
+park_still faultless (Holds held) old new (answered, visited, quiet) f = (quiet f).0
 
 -- the messages of a connection and its last park
 pub connection_told : (faultless now : Type 0) (start : Connection) (old : Visiting) (behind : Serving) (new : Visiting) (left rest before written : Option (List ℕ)) (end : Ending)

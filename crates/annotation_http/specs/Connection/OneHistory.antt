@@ -59,10 +59,9 @@ pub record RunToldBy (seen : List Happened) (old : Serving) (messages : List Mes
   pub told : ToldBy seen old.connection (place_of old) messages answers own new.connection (place_of new)
   pub mine : new.visiting.mine ≡ old.visiting.mine ++ own
 
--- the desk that is still held behind the last message is parked by one more request, whose answer is for no one; or memory ran out for that request
+-- the desk that is still held behind the last message is parked by one more request, whose answer is for no one
 pub data ParkedBy (seen : List Happened) (n : ℕ) : Connection → List ℕ → ℕ → Type 0 where
   holds_none : ParkedBy seen n Bare [] n
-  is_not_asked : (held : Holding) → ParkedBy seen n (Holds held) [] n
   is_asked : (held : Holding) (answered : Answered) (made : List ℕ) (k : ℕ) → AskedBy seen n held.who (Park held.doc held.hold held.desk.done held.desk.undone) answered made k → ParkedBy seen n (Holds held) made k
 
 -- a whole connection: its messages, the last one too, and the last park. What its visitor has seen goes on from what it had seen, and the places that it calls its own grow by those of the changes that this connection made, in order

@@ -1,5 +1,5 @@
 -- One message of a connection with its answer, and what the connection does last.
-use Rattle.std.specs.Prelude.{◌≡◌, ◌≢◌, ◌⊎◌, ℕ, Bool, true, []}
+use Rattle.std.specs.Prelude.{◌≡◌, ◌≢◌, ℕ, Bool, true, []}
 use Rattle.http_wire.specs.declared.answer.Answer.{Answer}
 use Rattle.http_wire.specs.declared.message.Message.{Message}
 use Rattle.project_machine.specs.declared.book_refusal.BookRefusal.TheVariants as no
@@ -39,9 +39,8 @@ pub record Step (old : Serving) (message : Message) (given : Given) (new : Servi
 abbrev pub IsQuiet : Type 0 → Visiting → Visiting → Answered → Type 0
 IsQuiet faultless old new answered = faultless → (new.faults ≡ old.faults) × (answered ≢ Refused no.Keeper [])
 
--- a desk that is still held at the end is parked by one more request, or memory ran out for that one
+-- a desk that is still held at the end is parked by one more request
 abbrev pub IsLastPark : Type 0 → Connection → Visiting → Visiting → Type 0
 IsLastPark faultless Bare old new = new ≡ old
 IsLastPark faultless (Holds held) old new =
-    (new ≡ old)
-    ⊎ ((answered : Answered) × Visited old new held.who (Park held.doc held.hold held.desk.done held.desk.undone) answered × IsQuiet faultless old new answered)
+    (answered : Answered) × Visited old new held.who (Park held.doc held.hold held.desk.done held.desk.undone) answered × IsQuiet faultless old new answered

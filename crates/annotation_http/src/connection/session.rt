@@ -98,6 +98,6 @@ pub fn serve_link<V: Visitor, L: Link, G: Ledger>(
     committed_layers_obey();
     let mut connection = start;
     let ending = serve_messages(alloc, visitor, &mut connection, link, steps);
-    park_last(visitor, &connection, steps);
+    park_last(visitor, connection, steps);
     ending
 }

@@ -1,3 +1,4 @@
+use Rattle.annotation_http.proofs.ConnectionProofs.HeadlineLemmas.{trustworthy}
 use Rattle.annotation_http.proofs.ConnectionProofs.SessionLemmas.{connection_told}
 use Rattle.annotation_http.proofs.connection.session.serve_link.Goals as goal
 
@@ -10,5 +11,5 @@ returns-clause-headline g c =
     record {
       told = told;
       by_one_history = λ more. c.connections_tell_one_history.ensures.history _ _ _ _ _ _ _ _ more told c.requires.legal;
-      layers_obey = λ place. c.committed_layers_obey.ensures _ place c.park_last.ensures.legal;
+      places = λ place at. trustworthy _ (c.committed_layers_obey.ensures _ place c.park_last.ensures.legal at);
     }
