@@ -86,7 +86,7 @@ impl<'f> Written<'f> {
 
     /// Takes a section with its lines.
     fn take_section(&mut self, section: Section<'f>) -> Result<(), Memory> {
-        let again = !section.header.is_message()
+        let again = !section.header.may_repeat()
             && find_section(self.sections.as_slice(), section.header.called()).is_some();
         if again {
             self.note(section.line, Flaw::Twice);

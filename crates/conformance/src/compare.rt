@@ -63,7 +63,7 @@ fn shown(alloc: Global, bytes: &[u8], start: usize) -> Result<String, AllocError
 }
 
 /// What differs between two lists of bytes, where they do.
-fn bytes_differ(
+pub fn bytes_differ(
     alloc: Global,
     name: &str,
     expected: &[u8],

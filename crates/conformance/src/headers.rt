@@ -46,17 +46,52 @@ pub struct Answer {
 #[derive(Clone, Copy, Debug)]
 pub enum Header<'f> {
     /// A file of the folder.
-    File { name: &'f str, form: Form },
+    File {
+        name: &'f str,
+        form: Form,
+    },
+    /// What the file of a project holds before the first run.
+    Disk {
+        name: &'f str,
+        form: Form,
+    },
     /// What comes in on the console.
-    Input { form: Form },
+    Input {
+        form: Form,
+    },
     /// What has to go out on the console.
-    Console { form: Form },
+    Console {
+        form: Form,
+    },
     /// What has to be said on the complaint sink.
-    Complaint { form: Form },
+    Complaint {
+        form: Form,
+    },
     /// The status that the run has to end with.
-    Status { status: u8 },
+    Status {
+        status: u8,
+    },
     /// The numbers of the calls of a device that fail, as they are written.
-    Fails { device: Device, numbers: &'f str },
+    Fails {
+        device: Device,
+        numbers: &'f str,
+    },
+    /// The numbers of the calls of the disk of a file that fail, as they are written; behind their effect or without any.
+    DiskFails {
+        name: &'f str,
+        done: bool,
+        numbers: &'f str,
+    },
+    /// What the file of a project has to hold when the run is over.
+    Stored {
+        name: &'f str,
+        form: Form,
+    },
+    /// A run behind that of the case, and the status that it has to end with. What it has to print stands in the section.
+    Then {
+        status: u8,
+        words: &'f str,
+    },
     /// The input comes in one piece only.
     Whole,
     /// A request that comes in on the console.
@@ -65,15 +100,18 @@ pub enum Header<'f> {
     Answer(Answer),
 }
 
-/// What a section is called. A case has at most one of each name, but for messages.
+/// What a section is called. A case has at most one of each name, but for messages and what is looked at behind its run.
 #[derive(Clone, Copy, Debug, PartialEq, Eq)]
 pub enum Called<'f> {
     File(&'f str),
+    Disk(&'f str),
     Input,
     Console,
     Complaint,
     Status,
     Fails(Device),
+    DiskFails { name: &'f str, done: bool },
+    Look,
     Whole,
     Ask,
     Answer,
@@ -84,11 +122,14 @@ impl<'f> Header<'f> {
     pub fn called(&self) -> Called<'f> {
         match self {
             Header::File { name, .. } => Called::File(name),
+            Header::Disk { name, .. } => Called::Disk(name),
             Header::Input { .. } => Called::Input,
             Header::Console { .. } => Called::Console,
             Header::Complaint { .. } => Called::Complaint,
             Header::Status { .. } => Called::Status,
             Header::Fails { device, .. } => Called::Fails(*device),
+            Header::DiskFails { name, done, .. } => Called::DiskFails { name, done: *done },
+            Header::Stored { .. } | Header::Then { .. } => Called::Look,
             Header::Whole => Called::Whole,
             Header::Ask(_) => Called::Ask,
             Header::Answer(_) => Called::Answer,
@@ -99,13 +140,16 @@ impl<'f> Header<'f> {
     pub fn takes_lines(&self) -> bool {
         !matches!(
             self,
-            Header::Status { .. } | Header::Fails { .. } | Header::Whole
+            Header::Status { .. } | Header::Fails { .. } | Header::DiskFails { .. } | Header::Whole
         )
     }
 
     /// Whether a case may have several such sections.
-    pub fn is_message(&self) -> bool {
-        matches!(self, Header::Ask(_) | Header::Answer(_))
+    pub fn may_repeat(&self) -> bool {
+        matches!(
+            self,
+            Header::Ask(_) | Header::Answer(_) | Header::Stored { .. } | Header::Then { .. }
+        )
     }
 }
 
@@ -262,9 +306,91 @@ fn read_answer(rest: &str) -> Option<Answer> {
     })
 }
 
+/// The numbers that `N` or `N-M` stands for: the first and the last.
+#[derive(Clone, Copy, Debug, PartialEq, Eq)]
+pub struct Calls {
+    pub first: u64,
+    pub last: u64,
+}
+
+/// How many calls in a row a case may name.
+const MOST_CALLS: u64 = 4_096;
+
+/// Reads `N` or `N-M`, M at least N and at most 4,096 numbers in all.
+pub fn read_calls(text: &str) -> Option<Calls> {
+    let (first, last) = match text.split_once('-') {
+        Some((first, last)) => (first.parse::<u64>().ok()?, last.parse::<u64>().ok()?),
+        None => {
+            let number = text.parse::<u64>().ok()?;
+            (number, number)
+        }
+    };
+    if first <= last && last - first < MOST_CALLS {
+        Some(Calls { first, last })
+    } else {
+        None
+    }
+}
+
+/// Reads `NAME [done] N[ N..]`, in which `N-M` may stand for N; the numbers are read again when they are used.
+fn read_disk_fails(rest: &str) -> Option<Header<'_>> {
+    let (name, rest) = split_word(rest);
+    let (done, numbers) = take_word(rest, "done");
+    if name.is_empty() || !numbers.split(' ').all(|calls| read_calls(calls).is_some()) {
+        return None;
+    }
+    Some(Header::DiskFails {
+        name,
+        done,
+        numbers,
+    })
+}
+
+/// A name, and the form that the words behind it say.
+#[derive(Clone, Copy, Debug)]
+struct Named<'f> {
+    name: &'f str,
+    form: Form,
+}
+
+/// Reads `NAME [escaped]`.
+fn read_named(rest: &str) -> Option<Named<'_>> {
+    let (name, rest) = split_word(rest);
+    let form = form_of(rest)?;
+    if name.is_empty() {
+        None
+    } else {
+        Some(Named { name, form })
+    }
+}
+
+/// Reads what the file of a project holds before the first run.
+fn read_disk(rest: &str) -> Option<Header<'_>> {
+    let Named { name, form } = read_named(rest)?;
+    Some(Header::Disk { name, form })
+}
+
+/// Reads what the file of a project has to hold.
+fn read_stored(rest: &str) -> Option<Header<'_>> {
+    let Named { name, form } = read_named(rest)?;
+    Some(Header::Stored { name, form })
+}
+
+/// Reads `STATUS WORDS`.
+fn read_then(rest: &str) -> Option<Header<'_>> {
+    let (status, words) = split_word(rest);
+    Some(Header::Then {
+        status: status.parse::<u8>().ok()?,
+        words,
+    })
+}
+
 /// Reads `KIND N[ N..]`; the numbers are read when they are used.
 fn read_fails(rest: &str) -> Option<Header<'_>> {
     let (device, numbers) = split_word(rest);
+    if device == "disk" {
+        return read_disk_fails(numbers);
+    }
     let device = device_of(device)?;
     if numbers
         .split(' ')
@@ -293,7 +419,10 @@ pub fn read_header(header: &str) -> Option<Header<'_>> {
         "status" => Some(Header::Status {
             status: rest.parse::<u8>().ok()?,
         }),
+        "disk" => read_disk(rest),
         "fails" => read_fails(rest),
+        "stored" => read_stored(rest),
+        "then" => read_then(rest),
         "whole" if rest.is_empty() => Some(Header::Whole),
         "ask" => Some(Header::Ask(read_ask(rest)?)),
         "answer" => Some(Header::Answer(read_answer(rest)?)),

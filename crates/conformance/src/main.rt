@@ -9,16 +9,19 @@ mod cases;
 mod compare;
 mod escapes;
 mod headers;
+mod looks;
 mod malformed;
 mod messages;
 mod prepared;
+mod runs;
 mod worlds;
 
 use crate::cases::{CaseFile, Written, read_cases};
-use crate::compare::{Differences, differences_of};
+use crate::compare::{Differences, bytes_differ, differences_of};
+use crate::looks::{Look, Seen};
 use crate::malformed::{Flaw, Malformed};
-use crate::prepared::prepare;
-use crate::worlds::{run_in_pieces, run_whole};
+use crate::prepared::{Prepared, prepare};
+use crate::worlds::{Outcome, run_in_pieces, run_whole};
 use anyhow::{Context, Result};
 use std::process::ExitCode;
 use std::{env, fs, str};
@@ -59,6 +62,57 @@ fn print_all(
     Ok(passed)
 }
 
+/// Prints what differs in what was found behind a run, and says whether nothing does.
+fn print_look(
+    rt: &HostRuntime,
+    file: &str,
+    case: &str,
+    how: &str,
+    look: &Look,
+    seen: &Seen,
+) -> Result<bool> {
+    match (look, seen) {
+        (Look::File { name, expected }, Seen::File(found)) => {
+            let text = bytes_differ(rt.alloc(), name.as_str(), expected, found)?;
+            if let Some(text) = text {
+                println!(rt; "{file}: {case}: {how}the file {text}")?;
+                return Ok(false);
+            }
+            Ok(true)
+        }
+        (Look::Run { text, expected, .. }, Seen::Run(left)) => {
+            let how = format!(in rt.alloc(); "{how}then `{text}`: ")?;
+            let told = differences_of(rt.alloc(), expected, left)?;
+            print_all(rt, file, case, how.as_str(), &told)
+        }
+        _ => Ok(false),
+    }
+}
+
+/// Prints what differs in a run and behind it, and says whether nothing does. A run before it that did not do its job leaves
+/// nothing to look at, and that differs too.
+fn print_outcome(
+    rt: &HostRuntime,
+    file: &str,
+    case: &str,
+    how: &str,
+    prepared: &Prepared,
+    outcome: &Outcome,
+) -> Result<bool> {
+    let told = differences_of(rt.alloc(), &prepared.expected, &outcome.left)?;
+    let mut passed = print_all(rt, file, case, how, &told)?;
+    if prepared.looks.len() != outcome.seen.len() {
+        println!(rt; "{file}: {case}: {how}nothing was looked at")?;
+        return Ok(false);
+    }
+    for (look, seen) in prepared.looks.iter().zip(outcome.seen.iter()) {
+        if !print_look(rt, file, case, how, look, seen)? {
+            passed = false;
+        }
+    }
+    Ok(passed)
+}
+
 /// Runs a case, prints what differs, and says whether it passed. Where calls fail by their number, or the
 /// case says so, the run in pieces is left out.
 fn run_case<'f>(
@@ -75,17 +129,16 @@ fn run_case<'f>(
             return Ok(false);
         }
     };
-    let left = run_whole(rt.alloc(), &prepared)?;
-    let told = differences_of(rt.alloc(), &prepared.expected, &left)?;
-    if !print_all(rt, file, name, "", &told)? {
+    let outcome = run_whole(rt.alloc(), &prepared)?;
+    if !print_outcome(rt, file, name, "", &prepared, &outcome)? {
         return Ok(false);
     }
     if prepared.whole {
         return Ok(true);
     }
-    let left = run_in_pieces(rt.alloc(), &prepared)?;
-    let told = differences_of(rt.alloc(), &prepared.expected, &left)?;
-    print_all(rt, file, name, "in pieces of one byte: ", &told)
+    let outcome = run_in_pieces(rt.alloc(), &prepared)?;
+    let how = "in pieces of one byte: ";
+    print_outcome(rt, file, name, how, &prepared, &outcome)
 }
 
 /// Runs the cases of a file.

@@ -2,8 +2,10 @@
 use crate::cases::{Section, Written, find_section};
 use crate::escapes::content;
 use crate::headers::{Called, Device, Form, Header};
+use crate::looks::{Look, looks_of};
 use crate::malformed::{Flaw, Malformed};
 use crate::messages::{answers, requests};
+use crate::runs::{FailingDisk, Run, failing_disk, run_of, split_words};
 use mark_base::{Bytes, Memory, Text};
 use std::alloc::Global;
 
@@ -15,7 +17,7 @@ pub struct Left {
     pub complaint: Vec<u8>,
 }
 
-/// The calls of each device that fail, by their numbers from 1.
+/// The calls of each device that fail, by their numbers from 1, which count from the case's own run on.
 #[derive(Debug, Drop)]
 pub struct Fails {
     pub folder: Vec<u64>,
@@ -23,6 +25,8 @@ pub struct Fails {
     pub write: Vec<u64>,
     pub complaint: Vec<u64>,
     pub disks: Vec<u64>,
+    /// The disks that fail themselves; one may stand twice.
+    pub failing: Vec<FailingDisk>,
 }
 
 impl Fails {
@@ -33,14 +37,8 @@ impl Fails {
             && self.write.is_empty()
             && self.complaint.is_empty()
             && self.disks.is_empty()
+            && self.failing.is_empty()
     }
-}
-
-/// A run before that of a case: its words, and the name of the file that comes in on its console, if one does.
-#[derive(Debug, Drop)]
-pub struct First {
-    pub words: Vec<String>,
-    pub input: Option<String>,
 }
 
 /// A case: the words, the files and the input of its run, and what the run has to leave.
@@ -48,13 +46,17 @@ pub struct First {
 pub struct Prepared {
     pub words: Vec<String>,
     /// The runs before it, over the same files and disks.
-    pub firsts: Vec<First>,
+    pub firsts: Vec<Run>,
     pub files: Vec<(Text, Bytes)>,
+    /// The files of projects before its first run.
+    pub disks: Vec<(Text, Bytes)>,
     pub input: Vec<u8>,
     /// Whether the input comes in one piece only.
     pub whole: bool,
     pub fails: Fails,
     pub expected: Left,
+    /// What is looked at when its run is over, in turn.
+    pub looks: Vec<Look>,
 }
 
 /// The sections of the case, where one of them has this name, and else those that all cases have.
@@ -94,45 +96,35 @@ fn words_of<'f>(
     Ok(split_words(alloc, text)?)
 }
 
-/// The words of a text, which are separated by single spaces; an empty text has none.
-fn split_words(alloc: Global, text: &str) -> Result<Vec<String>, Memory> {
-    let mut words = Vec::new(alloc);
-    if !text.is_empty() {
-        for word in text.split(' ') {
-            words.push(String::from_str(alloc, word)?)?;
-        }
-    }
-    Ok(words)
-}
-
-/// A run before: its words, and behind ` < ` the file that comes in on its console.
-fn first_of(alloc: Global, text: &str) -> Result<First, Memory> {
-    match text.split_once(" < ") {
-        Some((words, input)) => Ok(First {
-            words: split_words(alloc, words)?,
-            input: Some(String::from_str(alloc, input)?),
-        }),
-        None => Ok(First {
-            words: split_words(alloc, text)?,
-            input: None,
-        }),
-    }
-}
-
 /// The runs before that of a case: those that all cases have, and then its own.
 fn firsts_of<'f>(
     alloc: Global,
     case: &Written<'f>,
     common: &Written<'f>,
-) -> Result<Vec<First>, Memory> {
+) -> Result<Vec<Run>, Memory> {
     let mut firsts = Vec::new(alloc);
     for text in &common.firsts {
-        firsts.push(first_of(alloc, text)?)?;
+        firsts.push(run_of(alloc, text)?)?;
     }
     for text in &case.firsts {
-        firsts.push(first_of(alloc, text)?)?;
+        firsts.push(run_of(alloc, text)?)?;
     }
     Ok(firsts)
+}
+
+/// Appends the files of projects among these sections.
+fn push_disks(
+    alloc: Global,
+    disks: &mut Vec<(Text, Bytes)>,
+    sections: &[Section<'_>],
+) -> Result<(), Malformed> {
+    for section in sections {
+        if let Header::Disk { name, form } = section.header {
+            let bytes = Bytes::from_vec(content(alloc, section, form)?);
+            disks.push((Text::of(alloc, name)?, bytes))?;
+        }
+    }
+    Ok(())
 }
 
 /// Appends the files among these sections.
@@ -187,6 +179,58 @@ fn fails_of<'f>(
         }
     }
     Ok(fails)
+}
+
+/// Appends the disks that fail among these sections, but for those of which others say so by the same name.
+fn push_failing(
+    alloc: Global,
+    failing: &mut Vec<FailingDisk>,
+    sections: &[Section<'_>],
+    others: &[Section<'_>],
+) -> Result<(), Memory> {
+    for section in sections {
+        let Header::DiskFails {
+            name,
+            done,
+            numbers,
+        } = section.header
+        else {
+            continue;
+        };
+        if find_section(others, section.header.called()).is_none() {
+            failing.push(failing_disk(alloc, name, done, numbers)?)?;
+        }
+    }
+    Ok(())
+}
+
+/// The disks that fail: those of the case, and those of all cases.
+fn failing_of<'f>(
+    alloc: Global,
+    case: &Written<'f>,
+    common: &Written<'f>,
+) -> Result<Vec<FailingDisk>, Memory> {
+    let mut failing = Vec::new(alloc);
+    push_failing(alloc, &mut failing, case.sections.as_slice(), &[])?;
+    push_failing(
+        alloc,
+        &mut failing,
+        common.sections.as_slice(),
+        case.sections.as_slice(),
+    )?;
+    Ok(failing)
+}
+
+/// The calls of each device that fail.
+fn all_fails<'f>(alloc: Global, case: &Written<'f>, common: &Written<'f>) -> Result<Fails, Memory> {
+    Ok(Fails {
+        folder: fails_of(alloc, case, common, Device::Folder)?,
+        read: fails_of(alloc, case, common, Device::Read)?,
+        write: fails_of(alloc, case, common, Device::Write)?,
+        complaint: fails_of(alloc, case, common, Device::Complaint)?,
+        disks: fails_of(alloc, case, common, Device::Disks)?,
+        failing: failing_of(alloc, case, common)?,
+    })
 }
 
 /// The status that a case wants.
@@ -248,14 +292,11 @@ pub fn prepare<'f>(
     let mut files = Vec::new(alloc);
     push_files(alloc, &mut files, case.sections.as_slice())?;
     push_files(alloc, &mut files, common.sections.as_slice())?;
+    let mut disks = Vec::new(alloc);
+    push_disks(alloc, &mut disks, case.sections.as_slice())?;
+    push_disks(alloc, &mut disks, common.sections.as_slice())?;
     let (input, console) = streams_of(alloc, case, common)?;
-    let fails = Fails {
-        folder: fails_of(alloc, case, common, Device::Folder)?,
-        read: fails_of(alloc, case, common, Device::Read)?,
-        write: fails_of(alloc, case, common, Device::Write)?,
-        complaint: fails_of(alloc, case, common, Device::Complaint)?,
-        disks: fails_of(alloc, case, common, Device::Disks)?,
-    };
+    let fails = all_fails(alloc, case, common)?;
     let expected = Left {
         status: status_of(case, common),
         console,
@@ -263,13 +304,16 @@ pub fn prepare<'f>(
     };
     let whole = section_of(case, common, Called::Whole).is_some() || !fails.is_none();
     let firsts = firsts_of(alloc, case, common)?;
+    let looks = looks_of(alloc, sections_of(case, common, Called::Look))?;
     Ok(Prepared {
         words,
         firsts,
         files,
+        disks,
         input,
         whole,
         fails,
         expected,
+        looks,
     })
 }

@@ -1,18 +1,28 @@
 //! The runs of a case over a world in memory.
-ghost use Rattle.std.specs.Prelude.{ℕ, List};
+ghost use Rattle.std.specs.Prelude.{ℕ, List, IfOk};
 ghost use Rattle.named_disks.specs.NamedDisks.{IsIn};
 
+use crate::looks::{Look, Seen};
 use crate::malformed::Malformed;
-use crate::prepared::{First, Left, Prepared};
+use crate::prepared::{Left, Prepared};
+use crate::runs::{FailingDisk, Run};
 use annotation_cli::World;
 use annotation_cli::run::run_alone;
 use mark_base::{Bytes, Memory, MemoryLink, MemorySink, Text};
 use named_disks::{Disks, MemoryDisks};
 use program_inputs::MemoryFolder;
+use project_journal::MemoryDisk;
 use std::alloc::Global;
 
 /// How many bytes of an input come one by one at most; the rest comes as there is room for it.
 const MOST_PIECES: usize = 65_536;
+
+/// What the run of a case leaves, and what is found behind it: as much as the case looks at, in turn.
+#[derive(Debug, Drop)]
+pub struct Outcome {
+    pub left: Left,
+    pub seen: Vec<Seen>,
+}
 
 /// A world in memory between two runs: no disk is out.
 #[derive(Drop)]
@@ -43,6 +53,37 @@ impl Site {
             complaint: Vec::from_slice(alloc, self.world.complaint.written())?,
         })
     }
+
+    /// Makes a run whose console and sink do not fail, and tells what it left.
+    fn run_beside(
+        &mut self,
+        alloc: Global,
+        files: &[(Text, Bytes)],
+        run: &Run,
+    ) -> Result<Left, Memory> {
+        let input = input_of(alloc, files, run)?;
+        let console = console_of(alloc, input);
+        let complaint = MemorySink::new(alloc, Vec::new(alloc));
+        let status = self.run(alloc, run.words.as_slice(), console, complaint);
+        self.left(alloc, status)
+    }
+
+    /// Puts new devices in the place of the folder and the disks. They hold the same, and their calls fail by these numbers,
+    /// which count from here on.
+    fn renew(
+        &mut self,
+        alloc: Global,
+        files: &[(Text, Bytes)],
+        folder_fails: Vec<u64>,
+        disks: MemoryDisks,
+    ) -> Result<(), Memory>
+        requires { (name : List ℕ) → IsIn (⟦<MemoryDisks as Disks>⟧.out disks) name }
+    {
+        let files = copied(alloc, files)?;
+        self.world.folder = MemoryFolder::new(files, folder_fails);
+        self.world.disks = disks;
+        Ok(())
+    }
 }
 
 /// A second list of the files.
@@ -59,23 +100,101 @@ fn console_of(alloc: Global, input: Bytes) -> MemoryLink {
     MemoryLink::new(alloc, input, Vec::new(alloc), Vec::new(alloc))
 }
 
+/// Disks that hold these files, and do not fail.
+fn disks_of(alloc: Global, files: &[(Text, Bytes)]) -> Result<MemoryDisks, Memory>
+    ensures { IfOk result (λ disks. (name : List ℕ) → IsIn (⟦<MemoryDisks as Disks>⟧.out disks) name) }
+{
+    let mut named = Vec::new(alloc);
+    for file in files {
+        let disk = MemoryDisk::new(alloc, file.1.copy()?, Vec::new(alloc));
+        named.push((file.0.copy()?, disk))?;
+    }
+    Ok(MemoryDisks::new(alloc, named, Vec::new(alloc)))
+}
+
+/// The disk of a file that holds these bytes, and fails as these say that have its name.
+fn disk_again(
+    alloc: Global,
+    name: &str,
+    bytes: &[u8],
+    failing: &[FailingDisk],
+) -> Result<MemoryDisk, Memory> {
+    let mut fails = Vec::new(alloc);
+    for disk in failing {
+        if disk.name.as_str() == name {
+            fails.extend_from_slice(disk.fails.as_slice())?;
+        }
+    }
+    Ok(MemoryDisk::new(alloc, Bytes::of(alloc, bytes)?, fails))
+}
+
+/// Adds the disk of a name, as it was before; where the name has none, an empty one.
+fn push_disk(
+    alloc: Global,
+    named: &mut Vec<(Text, MemoryDisk)>,
+    name: &str,
+    before: &MemoryDisks,
+    failing: &[FailingDisk],
+) -> Result<(), Memory> {
+    if named.iter().any(|disk| disk.0.text() == name) {
+        return Ok(());
+    }
+    let disk = disk_again(alloc, name, before.bytes(name), failing)?;
+    named.push((Text::of(alloc, name)?, disk))?;
+    Ok(())
+}
+
+/// Adds the disks of the names among these words; of a word that is no name an empty one.
+fn push_disks(
+    alloc: Global,
+    named: &mut Vec<(Text, MemoryDisk)>,
+    words: &[String],
+    before: &MemoryDisks,
+    failing: &[FailingDisk],
+) -> Result<(), Memory> {
+    for word in words {
+        push_disk(alloc, named, word.as_str(), before, failing)?;
+    }
+    Ok(())
+}
+
+/// The disks of all names in the runs of a case and before them, as they were before this; the calls that fail count from
+/// here on.
+fn disks_again(
+    alloc: Global,
+    case: &Prepared,
+    before: &MemoryDisks,
+    fails: Vec<u64>,
+    failing: &[FailingDisk],
+) -> Result<MemoryDisks, Memory>
+    ensures { IfOk result (λ disks. (name : List ℕ) → IsIn (⟦<MemoryDisks as Disks>⟧.out disks) name) }
+{
+    let mut named = Vec::new(alloc);
+    push_disks(alloc, &mut named, case.words.as_slice(), before, failing)?;
+    for first in &case.firsts {
+        push_disks(alloc, &mut named, first.words.as_slice(), before, failing)?;
+    }
+    for file in &case.disks {
+        push_disk(alloc, &mut named, file.0.text(), before, failing)?;
+    }
+    Ok(MemoryDisks::new(alloc, named, fails))
+}
+
 /// The world of a case before its first run.
 fn site_of(alloc: Global, case: &Prepared) -> Result<Site, Memory> {
     let files = copied(alloc, case.files.as_slice())?;
-    let folder_fails = case.fails.folder.clone()?;
-    let disk_fails = case.fails.disks.clone()?;
     let world = World {
-        folder: MemoryFolder::new(files, folder_fails),
+        folder: MemoryFolder::new(files, Vec::new(alloc)),
         console: console_of(alloc, Bytes::from_vec(Vec::new(alloc))),
         complaint: MemorySink::new(alloc, Vec::new(alloc)),
-        disks: MemoryDisks::new(alloc, Vec::new(alloc), disk_fails),
+        disks: disks_of(alloc, case.disks.as_slice())?,
     };
     Ok(Site { world })
 }
 
-/// What comes in on the console of a run before: the bytes of a file, or nothing.
-fn input_of(alloc: Global, files: &[(Text, Bytes)], first: &First) -> Result<Bytes, Memory> {
-    if let Some(name) = &first.input {
+/// What comes in on the console of a run beside the case's: the bytes of a file, or nothing.
+fn input_of(alloc: Global, files: &[(Text, Bytes)], run: &Run) -> Result<Bytes, Memory> {
+    if let Some(name) = &run.input {
         for file in files {
             if file.0.text() == name.as_str() {
                 return file.1.copy();
@@ -88,36 +207,63 @@ fn input_of(alloc: Global, files: &[(Text, Bytes)], first: &First) -> Result<Byt
 /// Makes the runs before that of a case, and tells what the first leaves whose status is not 0.
 fn run_firsts(alloc: Global, case: &Prepared, site: &mut Site) -> Result<Option<Left>, Memory> {
     for first in &case.firsts {
-        let input = input_of(alloc, case.files.as_slice(), first)?;
-        let console = console_of(alloc, input);
-        let complaint = MemorySink::new(alloc, Vec::new(alloc));
-        let status = site.run(alloc, first.words.as_slice(), console, complaint);
-        if status != 0 {
-            let left = site.left(alloc, status)?;
+        let left = site.run_beside(alloc, case.files.as_slice(), first)?;
+        if left.status != 0 {
             return Ok(Some(left));
         }
     }
     Ok(None)
 }
 
-/// Runs the words of a case behind the runs before it, and tells what the run leaves, or what a run before left that did
-/// not do its job.
+/// Looks at what the run of a case left. A run that is made for this meets no device that fails, and leaves what it leaves
+/// to the looks behind it.
+fn looked(alloc: Global, case: &Prepared, site: &mut Site) -> Result<Vec<Seen>, Memory> {
+    let disks = disks_again(alloc, case, &site.world.disks, Vec::new(alloc), &[])?;
+    site.renew(alloc, case.files.as_slice(), Vec::new(alloc), disks)?;
+    let mut seen = Vec::new(alloc);
+    for look in &case.looks {
+        match look {
+            Look::File { name, .. } => {
+                let bytes = site.world.disks.bytes(name.as_str());
+                seen.push(Seen::File(Vec::from_slice(alloc, bytes)?))?;
+            }
+            Look::Run { run, .. } => {
+                let left = site.run_beside(alloc, case.files.as_slice(), run)?;
+                seen.push(Seen::Run(left))?;
+            }
+        }
+    }
+    Ok(seen)
+}
+
+/// Runs the words of a case behind the runs before it, and tells what the run leaves and what is found then, or what a run
+/// before left that did not do its job.
 fn run_over(
     alloc: Global,
     case: &Prepared,
     console: MemoryLink,
     complaint: MemorySink,
-) -> Result<Left, Malformed> {
+) -> Result<Outcome, Malformed> {
     let mut site = site_of(alloc, case)?;
     if let Some(left) = run_firsts(alloc, case, &mut site)? {
-        return Ok(left);
+        return Ok(Outcome {
+            left,
+            seen: Vec::new(alloc),
+        });
     }
+    let fails = case.fails.disks.clone()?;
+    let failing = case.fails.failing.as_slice();
+    let disks = disks_again(alloc, case, &site.world.disks, fails, failing)?;
+    let folder_fails = case.fails.folder.clone()?;
+    site.renew(alloc, case.files.as_slice(), folder_fails, disks)?;
     let status = site.run(alloc, case.words.as_slice(), console, complaint);
-    Ok(site.left(alloc, status)?)
+    let left = site.left(alloc, status)?;
+    let seen = looked(alloc, case, &mut site)?;
+    Ok(Outcome { left, seen })
 }
 
 /// Runs a case with its input in one piece.
-pub fn run_whole(alloc: Global, case: &Prepared) -> Result<Left, Malformed> {
+pub fn run_whole(alloc: Global, case: &Prepared) -> Result<Outcome, Malformed> {
     let input = Bytes::of(alloc, case.input.as_slice())?;
     let reads = case.fails.read.clone()?;
     let writes = case.fails.write.clone()?;
@@ -127,7 +273,7 @@ pub fn run_whole(alloc: Global, case: &Prepared) -> Result<Left, Malformed> {
 }
 
 /// Runs a case with its input in pieces of one byte.
-pub fn run_in_pieces(alloc: Global, case: &Prepared) -> Result<Left, Malformed> {
+pub fn run_in_pieces(alloc: Global, case: &Prepared) -> Result<Outcome, Malformed> {
     let count = case.input.len().min(MOST_PIECES);
     let sizes = vec![in alloc; 1usize; count]?;
     let input = Bytes::of(alloc, case.input.as_slice())?;
