@@ -15,6 +15,7 @@ use Rattle.annotation_conf.proofs.BuildTables.{keeps_faultless}
 use Rattle.annotation_conf.proofs.SoundRead.{types_few_read, relations_few_read, attributes_few_read, roles_few_read, values_few_read}
 use Rattle.annotation_conf.proofs.SoundSizes.{type_names_differ, names_are}
 use Rattle.annotation_conf.proofs.SoundLaw.{sound}
+use Rattle.annotation_conf.proofs.SoundRoundTrip.{read_back}
 
 pub tables_are : (text : List ℕ) (file : File) → IsFaultless text file → AreTables file
 tables_are text file faultless =
@@ -36,8 +37,8 @@ tables_are text file faultless =
 
 pub kept_is : (text : List ℕ) (file : File) → IsFaultless text file → IsKept (configuration_of file)
 kept_is text file faultless = record {
-  bytes = text;
-  says = faultless.says;
+  sound = sound text (configuration_of file) faultless.says;
+  again = read_back text (configuration_of file) faultless.says;
   few_relations = relations_few_read text (configuration_of file) faultless.says;
   few_attributes = attributes_few_read text (configuration_of file) faultless.says;
   few_roles = roles_few_read text (configuration_of file) faultless.says;

@@ -1,13 +1,15 @@
 -- What every configuration keeps.
-use Rattle.std.specs.Prelude.{◌≡◌, ℕ, ◌≤◌, List, length, Ok}
+use Rattle.std.specs.Prelude.{◌≡◌, ◌≤◌, length, Ok}
 use Rattle.annotation_conf.specs.Configurations.{AttributeType, Configuration}
 use Rattle.annotation_conf.specs.ConfOf.{conf_of}
+use Rattle.annotation_conf.specs.ConfText.{conf_text}
+use Rattle.annotation_conf.specs.Sound.{IsSound}
 use Rattle.std.specs.List.{All}
 
--- it is what some bytes say, and its tables have at most 256 rows
+-- it is sound, its canonical text is read as it, and its tables have at most 256 rows
 pub record IsKept (conf : Configuration) : Type 0 where
-  pub bytes : List ℕ
-  pub says : conf_of bytes ≡ Ok conf
+  pub sound : IsSound conf
+  pub again : conf_of (conf_text conf) ≡ Ok conf
   pub few_relations : length conf.relations ≤ 256
   pub few_attributes : length conf.attributes ≤ 256
   pub few_roles : All (λ roles. length roles ≤ 256) conf.roles

@@ -3,12 +3,10 @@ use Rattle.annotation_conf.specs.Configurations.{Configuration}
 use Rattle.annotation_conf.specs.ConfOf.{conf_of}
 use Rattle.annotation_conf.specs.ConfText.{conf_text}
 use Rattle.annotation_conf.specs.Sound.{IsSound}
-use Rattle.annotation_conf.proofs.SoundLaw.{sound}
-use Rattle.annotation_conf.proofs.SoundRoundTrip.{read_back}
 use Rattle.annotation_conf.proofs.conf.Conf.reads_back.Goals as goal
 
 pub returns-clause-again : goal.returns-clause-again
-returns-clause-again c = subst (λ (conf : Configuration). conf_of (conf_text conf) ≡ Ok conf) c.self.view_is (read_back c.self.invariant.bytes _ c.self.invariant.says)
+returns-clause-again c = subst (λ (conf : Configuration). conf_of (conf_text conf) ≡ Ok conf) c.self.view_is c.self.invariant.again
 
 pub returns-clause-sound : goal.returns-clause-sound
-returns-clause-sound c = subst (λ (conf : Configuration). IsSound conf) c.self.view_is (sound c.self.invariant.bytes _ c.self.invariant.says)
+returns-clause-sound c = subst (λ (conf : Configuration). IsSound conf) c.self.view_is c.self.invariant.sound
