@@ -5,7 +5,7 @@ ghost use Rattle.std.specs.List.{list_any};
 ghost use Rattle.type_hierarchy.specs.TypeTrees.{is_under};
 ghost use Rattle.annotation_conf.specs.Configurations.{admits, admits_relation};
 
-use crate::{Alternatives, Arguments};
+use crate::{Alternatives, Arguments, RelationType};
 use mark_base::{RelId, TypeId};
 use type_hierarchy::Types;
 
@@ -65,12 +65,7 @@ fn line_admits(types: &Types, line: &Arguments, first: TypeId, second: TypeId) -
 }
 
 /// Whether some line admits these types as its two arguments.
-pub(crate) fn some_line_admits(
-    types: &Types,
-    lines: &[Arguments],
-    first: TypeId,
-    second: TypeId,
-) -> bool
+fn some_line_admits(types: &Types, lines: &[Arguments], first: TypeId, second: TypeId) -> bool
     ensures { result ≡ list_any (λ line. admits types.now line.first first && admits types.now line.second second) lines.now }
 {
     lines
@@ -79,8 +74,39 @@ pub(crate) fn some_line_admits(
 }
 
 /// Whether some line admits this type as its first argument.
-pub(crate) fn some_line_admits_first(types: &Types, lines: &[Arguments], first: TypeId) -> bool
+fn some_line_admits_first(types: &Types, lines: &[Arguments], first: TypeId) -> bool
     ensures { result ≡ list_any (λ line. admits types.now line.first first) lines.now }
 {
     lines.iter().any(|line| admits(types, &line.first, first))
+}
+
+/// Whether some line of the relation type at a place admits these types as its two arguments.
+pub(crate) fn relation_admits(
+    types: &Types,
+    relations: &[RelationType],
+    id: RelId,
+    first: TypeId,
+    second: TypeId,
+) -> bool
+    ensures { result ≡ option_map_or (λ relation. list_any (λ line. admits types.now line.first first && admits types.now line.second second) relation.lines) (slice_get relations.now id.n) false }
+{
+    match relations.get(usize::from(id.n)) {
+        Some(relation) => some_line_admits(types, relation.lines.items(), first, second),
+        None => false,
+    }
+}
+
+/// Whether some line of the relation type at a place admits this type as its first argument.
+pub(crate) fn relation_admits_first(
+    types: &Types,
+    relations: &[RelationType],
+    id: RelId,
+    first: TypeId,
+) -> bool
+    ensures { result ≡ option_map_or (λ relation. list_any (λ line. admits types.now line.first first) relation.lines) (slice_get relations.now id.n) false }
+{
+    match relations.get(usize::from(id.n)) {
+        Some(relation) => some_line_admits_first(types, relation.lines.items(), first),
+        None => false,
+    }
 }

@@ -8,7 +8,7 @@ ghost use Rattle.annotation_conf.specs.Kept.{IsKept};
 ghost use Rattle.annotation_conf.specs.Lookups.{relation_named, relation_name, relation_role, is_equivalence, relation_admits, relation_admits_first, roles_of, role_named, role_name, role_least, role_most, role_admits, attribute_named, attribute_name, values_of, value_named, targets_admit, attribute_admits, overlap_allowed, usable_in, category_of, categories_of};
 ghost use Rattle.annotation_conf.specs.Sound.{IsSound};
 
-use crate::admission::{admits, admits_relation, some_line_admits, some_line_admits_first};
+use crate::admission::{admits, admits_relation, relation_admits, relation_admits_first};
 use crate::overlap_line::{is_apart, some_line_allows};
 use crate::{Alternatives, AttrTarget, AttributeType, Overlap, RelationType, Role, Roles};
 use mark_base::{AttrId, Name, OvlKind, RelId, TypeId};
@@ -183,10 +183,7 @@ impl Conf {
     pub fn relation_admits(&self, id: RelId, first: TypeId, second: TypeId) -> bool
         ensures { result ≡ relation_admits self.now id.n first second }
     {
-        match self.relations.get(usize::from(id.n)) {
-            Some(relation) => some_line_admits(&self.types, relation.lines.items(), first, second),
-            None => false,
-        }
+        relation_admits(&self.types, &self.relations, id, first, second)
     }
 
     /// Whether some line of a relation type admits this type as its first argument. Cost: as
@@ -194,10 +191,7 @@ impl Conf {
     pub fn relation_admits_first(&self, id: RelId, first: TypeId) -> bool
         ensures { result ≡ relation_admits_first self.now id.n first }
     {
-        match self.relations.get(usize::from(id.n)) {
-            Some(relation) => some_line_admits_first(&self.types, relation.lines.items(), first),
-            None => false,
-        }
+        relation_admits_first(&self.types, &self.relations, id, first)
     }
 
     /// The roles of a type, none where it is no event type or is out of range.
