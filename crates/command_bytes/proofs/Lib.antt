@@ -7,5 +7,6 @@ mod LoadLemmas
 mod NameLemmas
 mod ScriptLemmas
 mod ScriptsReadLemmas
+mod TextLemmas
 mod Utf8Lemmas
 mod ValueLemmas

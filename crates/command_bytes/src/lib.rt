@@ -11,6 +11,7 @@
 //! commands can be written and read again. The same commands as bodies of requests are `command_json`'s.
 #![tactic(auto)]
 
+mod command_values;
 mod id_bytes;
 mod laws;
 mod read_commands;
@@ -21,6 +22,7 @@ mod worked_rows;
 mod write_commands;
 mod write_fields;
 
+pub use crate::command_values::{layer_is_typed, scripts_are_typed};
 pub use crate::id_bytes::id_of;
 pub use crate::laws::{
     accepted_scripts_can_be_written, loads_are_read_again, scripts_are_told_apart,

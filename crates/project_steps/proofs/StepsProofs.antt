@@ -4,5 +4,4 @@ pub mod JudgeLemmas
 pub mod OutcomeLemmas
 pub mod ShotLemmas
 pub mod TextLemmas
-pub mod ValueLemmas
 pub mod VerdictActs

@@ -10,4 +10,4 @@
 
 mod steps;
 
-pub use crate::steps::{Judged, Kept, is_typed, judge, layer_is_typed, scripts_are_typed};
+pub use crate::steps::{Judged, Kept, is_typed, judge};

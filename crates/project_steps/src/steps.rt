@@ -26,4 +26,4 @@ mod snap;
 mod texts;
 
 pub use crate::steps::judging::{Judged, Kept, judge};
-pub use crate::steps::request_values::{is_typed, layer_is_typed, scripts_are_typed};
+pub use crate::steps::request_values::is_typed;

@@ -12,12 +12,12 @@ ghost use Rattle.project_book.specs.Restoring.Kept.{IsHeld, IsShotKept};
 
 use crate::restoring::layers_kept::{lines_fit, obeys};
 use char_documents::Doc;
+use command_bytes::layer_is_typed;
 use curator_decisions::{DecisionFault, Decisions, Verdict};
 use layer_core::well_formed_layers_cohere;
 use layer_model::{Layer, Snapshot};
 use mark_base::{Memory, Slug};
 use project_state::{BookState, StoredSnapshot};
-use project_steps::layer_is_typed;
 use std::alloc::Global;
 use unanimous_merge::ItemId;
 

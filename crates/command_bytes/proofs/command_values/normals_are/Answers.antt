@@ -4,7 +4,7 @@ use Rattle.std.specs.List.{AllByRecursion}
 use Rattle.layer_model.proofs.Maps.{same_list}
 use Rattle.ann_writer.proofs.MarkSteps.{told_on}
 use Rattle.ann_writer.specs.Writable.{NormalTexts}
-use Rattle.project_steps.proofs.steps.request_values.normals_are.Goals as goal
+use Rattle.command_bytes.proofs.command_values.normals_are.Goals as goal
 
 pub loop-number-init : goal.loop-number-init
 loop-number-init c =
