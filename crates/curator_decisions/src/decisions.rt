@@ -12,8 +12,8 @@ use std::alloc::Global;
 use std::marker::Model;
 use unanimous_merge::ItemId;
 
-/// The place of an item among all items.
-pub(crate) fn item_rank(item: ItemId) -> u64
+/// The place of an item among all items: by its holder, and then by its ID in the order of IDs.
+pub fn item_rank(item: ItemId) -> u64
     ensures { result ≡ item_rank item }
 {
     u64::from(item.holder) * 7_000_000_000 + rank(item.id)

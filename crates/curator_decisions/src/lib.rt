@@ -18,7 +18,7 @@ mod worked_rows;
 
 pub use crate::decided_laws::{decisions_are_a_map, decisions_stay_accepted, verdicts_are_set};
 pub use crate::decision_fault::DecisionFault;
-pub use crate::decisions::Decisions;
+pub use crate::decisions::{Decisions, item_rank};
 pub use crate::laws::{undecided_layers_are_accepted, undecided_layers_obey};
 pub use crate::verdict::Verdict;
 pub use crate::worked_rows::{examples_of_curated_layers, examples_of_decisions};
