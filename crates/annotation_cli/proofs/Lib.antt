@@ -5,7 +5,9 @@ mod NumberLemmas
 mod WordLemmas
 mod ImportLemmas
 mod WeakLemmas
+mod AloneLemmas
 mod KeeperLemmas
 mod PostingLemmas
+mod CuratorLemmas
 mod ReadingLemmas
 pub mod CommandsProofs

@@ -4,12 +4,11 @@ use Rattle.layer_model.specs.Annotations.{Annotations}
 use Rattle.match_scores.specs.Standing.{Layers, Standing, posted}
 use Rattle.match_scores.specs.ScoreTable.{scores_table}
 use Rattle.project_machine.specs.ProjectState.{Row, ProjectState, annotators, row_in}
-use Rattle.project_machine.specs.Requests.{ListDocs, ReadLayer, Happened}
+use Rattle.project_machine.specs.Requests.{Happened}
 use Rattle.project_machine.specs.History.{after}
 use Rattle.program_inputs.specs.declared.trouble.Trouble.{Trouble}
+use Rattle.program_inputs.specs.declared.trouble.Trouble.TheVariants.{Memory}
 use Rattle.program_inputs.specs.ProjectFiles.ProjectFiles.{NotOpened}
-use Rattle.annotation_cli.specs.Commands.Requests.{RefusesTo}
-use Rattle.annotation_cli.specs.Showing.{curator_in}
 use Rattle.annotation_cli.specs.Works.{EndsOn, WorksOn}
 
 -- ---- the layers that are scored
@@ -42,26 +41,12 @@ pub record ShowsScores (log : List Happened) (bytes : List ℕ) (now : List Happ
   pub table : bytes ≡ scores_in (after log)
   pub still : now ≡ log
 
--- the project refuses a caller somebody's layer on a document
-pub record LayerRefused (log : List Happened) (caller : List ℕ) (why : Trouble) : Type 0 where
-  pub name : List ℕ
-  pub who : List ℕ
-  pub refused : RefusesTo log caller (ReadLayer name who) why
-
--- why a caller is shown no scores: the project refuses the list of documents, or a layer; or memory ran out
-abbrev pub NoScoresFor : List Happened → (caller : List ℕ) → Trouble → Type 0
-NoScoresFor log caller why = RefusesTo log caller ListDocs why ⊎ LayerRefused log caller why
-
--- the same of the first curator
-abbrev pub NoScores : List Happened → Trouble → Type 0
-NoScores log why = NoScoresFor log (curator_in log) why
-
 -- ---- the command
 
 -- what `scores` does
 abbrev pub PrintsScores : (file file_now : Option (List ℕ)) → (bytes : List ℕ) → Type 0
 PrintsScores file file_now bytes = WorksOn file file_now (λ log now. ShowsScores log bytes now)
 
--- why no scores were printed
+-- why no scores were printed: the project was not opened; or it was, and memory ran out, since it refuses its first curator neither the list of its documents nor the layer of an annotator on one of them
 abbrev pub NotScored : (file : Option (List ℕ)) → Trouble → Type 0
-NotScored file why = NotOpened file why ⊎ EndsOn file (λ log. NoScores log why)
+NotScored file why = NotOpened file why ⊎ EndsOn file (λ log. why ≡ Memory)

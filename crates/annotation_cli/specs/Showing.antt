@@ -4,6 +4,7 @@ use Rattle.std.specs.Option.{option_map_or}
 use Rattle.entry_bytes.specs.declared.person.Person.{Person}
 use Rattle.annotation_conf.specs.Configurations.{Configuration}
 use Rattle.layer_model.specs.Annotations.{Annotations}
+use Rattle.ann_reader.specs.AnnFiles.{IsAnn}
 use Rattle.ann_writer.specs.AnnOf.{ann_of}
 use Rattle.kappa_alpha.specs.declared.figures.PairLine.{PairLine}
 use Rattle.kappa_alpha.specs.declared.figures.AlphaLine.{AlphaLine}
@@ -18,13 +19,14 @@ use Rattle.annotation_cli.specs.Works.{EndsOn, WorksOn}
 
 -- ---- what a project shows
 
--- the committed layer of an annotator on a document, as the annotator reads it
+-- the committed layer of an annotator on a document, as the annotator reads it; the lines are an .ann file of it
 pub record ShowsLayer (log : List Happened) (who name : List ℕ) (bytes : List ℕ) (now : List Happened) : Type 0 where
   pub layer : Annotations
   pub text : List ℕ
   pub conf : Configuration
   pub granted : Grants log who (ReadLayer name who) (Layer layer text conf) now
   pub lines : bytes ≡ ann_of conf text layer
+  pub again : IsAnn conf text bytes layer
 
 -- the first curator by name
 abbrev pub first_curator : List Person → List ℕ
@@ -34,11 +36,12 @@ first_curator people = option_map_or (λ person. person.name) (find (λ person. 
 abbrev pub curator_in : List Happened → List ℕ
 curator_in log = first_curator (after log).people
 
--- the curated layer of a snapshot, as a caller reads it
+-- the curated layer of a snapshot, as a caller reads it; the lines are an .ann file of it
 pub record ShowsCuratedTo (log : List Happened) (caller : List ℕ) (number : ℕ) (bytes : List ℕ) (now : List Happened) : Type 0 where
   pub view : View
   pub granted : Grants log caller (TakeSnapshot number) (Taken view) now
   pub lines : bytes ≡ ann_of view.conf view.text (curated_layer view)
+  pub again : IsAnn view.conf view.text bytes (curated_layer view)
 
 -- the same, as the first curator reads it
 abbrev pub ShowsCurated : List Happened → ℕ → (bytes : List ℕ) → List Happened → Type 0

@@ -5,11 +5,9 @@ ghost use Rattle.layer_model.specs.Coherent.{IsCoherent};
 ghost use Rattle.named_disks.specs.NamedDisks.{IsIn, KeepsOthers, reads_as};
 ghost use Rattle.project_machine.specs.History.{after};
 ghost use Rattle.project_machine.specs.Machine.{line_of};
-ghost use Rattle.project_machine.specs.ProjectState.{annotators, is_annotator, row_in};
-ghost use Rattle.project_machine.specs.Requests.{ListDocs, ReadLayer};
+ghost use Rattle.project_machine.specs.ProjectState.{annotators, is_annotator, is_curator, is_there, row_in};
 ghost use Rattle.project_book.specs.Keeping.{TellsKeeper};
-ghost use Rattle.annotation_cli.specs.Commands.Requests.{RefusesTo};
-ghost use Rattle.annotation_cli.specs.Scoring.{LayerRefused, NoScores, NoScoresFor, NotScored, PrintsScores, ShowsScores, committed_in, committed_layers, layers_on, posted_if};
+ghost use Rattle.annotation_cli.specs.Scoring.{NotScored, PrintsScores, ShowsScores, committed_in, committed_layers, layers_on, posted_if};
 
 use crate::commands::{ask, ask_granted, trouble_of};
 use crate::showing::curator_in;
@@ -47,9 +45,10 @@ fn list_documents<K: Keeper, G: Ledger>(
     caller: &Slug,
     steps: &mut Steps<G>,
 ) -> Result<DocList, Trouble>
+    requires { is_curator (after project.old.log) caller.now ≡ true }
     ensures listed { IfOk result (λ lines. lines ≡ map line_of (after project.old.log).documents) }
     ensures still { OnOk result (project.new.log ≡ project.old.log) }
-    ensures refused { IfErr result (RefusesTo project.old.log caller.now ListDocs) }
+    ensures refused { IfErr result (λ trouble. trouble ≡ Trouble.Memory) }
     ensures keeper { TellsKeeper K.faults K.faultless project.old.keeper project.new.keeper (IsErrOf result Trouble.DiskFailed) }
     ensures certain { K.doubt project.old.keeper ≡ None → OnOk result (K.doubt project.new.keeper ≡ None) }
     ensures no_file { IfErr result (λ trouble. trouble ≢ Trouble.FileFailed) }
@@ -70,11 +69,13 @@ fn committed_layer<K: Keeper, G: Ledger>(
     who: Slug,
     steps: &mut Steps<G>,
 ) -> Result<Option<Arc<Layer>>, Trouble>
-    requires { is_annotator (after project.old.log) who ≡ true }
+    requires curates { is_curator (after project.old.log) caller.now ≡ true }
+    requires there { is_there (after project.old.log) doc ≡ true }
+    requires annotates { is_annotator (after project.old.log) who ≡ true }
     ensures committed { IfOk result (λ layer. option_map arc_value layer ≡ committed_in (row_in (after project.old.log) doc who)) }
     ensures whole { IfOk result (λ layer. IfSome layer (λ it. IsCoherent (arc_value it))) }
     ensures still { OnOk result (project.new.log ≡ project.old.log) }
-    ensures refused { IfErr result (RefusesTo project.old.log caller.now (ReadLayer doc who)) }
+    ensures refused { IfErr result (λ trouble. trouble ≡ Trouble.Memory) }
     ensures keeper { TellsKeeper K.faults K.faultless project.old.keeper project.new.keeper (IsErrOf result Trouble.DiskFailed) }
     ensures certain { K.doubt project.old.keeper ≡ None → OnOk result (K.doubt project.new.keeper ≡ None) }
     ensures no_file { IfErr result (λ trouble. trouble ≢ Trouble.FileFailed) }
@@ -106,12 +107,14 @@ fn post_layer<K: Keeper, G: Ledger>(
     rater: u8,
     steps: &mut Steps<G>,
 ) -> Result<(), Trouble>
+    requires curates { is_curator (after project.old.log) caller.now ≡ true }
+    requires there { is_there (after project.old.log) name.now ≡ true }
     requires annotates { is_annotator (after project.old.log) who.now ≡ true }
     requires doc_in { doc < length scores.old.documents }
     requires rater_in { rater < scores.old.raters }
     ensures posted { OnOk result (scores.new ≡ posted_if scores.old doc rater (committed_in (row_in (after project.old.log) name.now who.now))) }
     ensures still { OnOk result (project.new.log ≡ project.old.log) }
-    ensures refused { IfErr result (LayerRefused project.old.log caller.now) }
+    ensures refused { IfErr result (λ trouble. trouble ≡ Trouble.Memory) }
     ensures keeper { TellsKeeper K.faults K.faultless project.old.keeper project.new.keeper (IsErrOf result Trouble.DiskFailed) }
     ensures certain { K.doubt project.old.keeper ≡ None → OnOk result (K.doubt project.new.keeper ≡ None) }
     ensures no_file { IfErr result (λ trouble. trouble ≢ Trouble.FileFailed) }
@@ -139,12 +142,14 @@ fn post_document<K: Keeper, G: Ledger>(
     scores: &mut Scores,
     steps: &mut Steps<G>,
 ) -> Result<(), Trouble>
+    requires curates { is_curator (after project.old.log) caller.now ≡ true }
+    requires there { is_there (after project.old.log) name.now ≡ true }
     requires room { length scores.old.documents < 4096 }
     requires raters { scores.old.raters ≡ length names.now }
     requires named { names.now ≡ annotators (after project.old.log) }
     ensures posted { OnOk result (scores.new ≡ record scores.old { documents = scores.old.documents ++ layers_on (after project.old.log) name.now ∷ [] }) }
     ensures still { OnOk result (project.new.log ≡ project.old.log) }
-    ensures refused { IfErr result (LayerRefused project.old.log caller.now) }
+    ensures refused { IfErr result (λ trouble. trouble ≡ Trouble.Memory) }
     ensures keeper { TellsKeeper K.faults K.faultless project.old.keeper project.new.keeper (IsErrOf result Trouble.DiskFailed) }
     ensures certain { K.doubt project.old.keeper ≡ None → OnOk result (K.doubt project.new.keeper ≡ None) }
     ensures no_file { IfErr result (λ trouble. trouble ≢ Trouble.FileFailed) }
@@ -168,12 +173,14 @@ fn post_documents<K: Keeper, G: Ledger>(
     names: &[Slug],
     steps: &mut Steps<G>,
 ) -> Result<Scores, Trouble>
+    requires curates { is_curator (after project.old.log) caller.now ≡ true }
+    requires listed { lines.now ≡ map line_of (after project.old.log).documents }
     requires few { length lines.now ≤ 4096 }
     requires raters { length names.now ≤ 16 }
     requires named { names.now ≡ annotators (after project.old.log) }
     ensures posted { IfOk result (λ scores. scores ≡ record { raters = length names.now; documents = map (λ line. layers_on (after project.old.log) line.name) lines.now }) }
     ensures still { OnOk result (project.new.log ≡ project.old.log) }
-    ensures refused { IfErr result (LayerRefused project.old.log caller.now) }
+    ensures refused { IfErr result (λ trouble. trouble ≡ Trouble.Memory) }
     ensures keeper { TellsKeeper K.faults K.faultless project.old.keeper project.new.keeper (IsErrOf result Trouble.DiskFailed) }
     ensures certain { K.doubt project.old.keeper ≡ None → OnOk result (K.doubt project.new.keeper ≡ None) }
     ensures no_file { IfErr result (λ trouble. trouble ≢ Trouble.FileFailed) }
@@ -195,10 +202,11 @@ fn read_scores<K: Keeper, G: Ledger>(
     names: &[Slug],
     steps: &mut Steps<G>,
 ) -> Result<Scores, Trouble>
-    requires { names.now ≡ annotators (after project.old.log) }
+    requires curates { is_curator (after project.old.log) caller.now ≡ true }
+    requires named { names.now ≡ annotators (after project.old.log) }
     ensures posted { IfOk result (λ scores. scores ≡ committed_layers (after project.old.log)) }
     ensures still { OnOk result (project.new.log ≡ project.old.log) }
-    ensures refused { IfErr result (NoScoresFor project.old.log caller.now) }
+    ensures refused { IfErr result (λ trouble. trouble ≡ Trouble.Memory) }
     ensures keeper { TellsKeeper K.faults K.faultless project.old.keeper project.new.keeper (IsErrOf result Trouble.DiskFailed) }
     ensures certain { K.doubt project.old.keeper ≡ None → OnOk result (K.doubt project.new.keeper ≡ None) }
     ensures no_file { IfErr result (λ trouble. trouble ≢ Trouble.FileFailed) }
@@ -224,7 +232,7 @@ fn scores_here<K: Keeper, G: Ledger>(
     steps: &mut Steps<G>,
 ) -> Result<Bytes, Trouble>
     ensures shown { IfOk result (λ bytes. ShowsScores project.old.log bytes project.new.log) }
-    ensures refused { IfErr result (NoScores project.old.log) }
+    ensures refused { IfErr result (λ trouble. trouble ≡ Trouble.Memory) }
     ensures keeper { TellsKeeper K.faults K.faultless project.old.keeper project.new.keeper (IsErrOf result Trouble.DiskFailed) }
     ensures certain { K.doubt project.old.keeper ≡ None → OnOk result (K.doubt project.new.keeper ≡ None) }
     ensures no_file { IfErr result (λ trouble. trouble ≢ Trouble.FileFailed) }

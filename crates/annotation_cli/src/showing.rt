@@ -1,11 +1,14 @@
 //! The commands `export` and `curated`: a layer of the project of a file.
-ghost use Rattle.std.specs.Prelude.{◌≡◌, ◌≢◌, None, IfErr, IfOk, IsErrOf, MatchResult, OnOk, find, length};
+ghost use Rattle.std.specs.Prelude.{◌≡◌, ◌≢◌, None, IfErr, IfOk, IsErrOf, MatchResult, OnOk, find, length, true};
 ghost use Rattle.std.specs.Option.{option_copied};
 ghost use Rattle.std.specs.Arc.{arc_value};
 ghost use Rattle.named_disks.specs.NamedDisks.{IsIn, KeepsOthers, reads_as};
 ghost use Rattle.project_book.specs.Keeping.{TellsKeeper};
 ghost use Rattle.layer_core.specs.WellFormed.{IsWellFormed};
+ghost use Rattle.ann_reader.specs.AnnFiles.{IsAnn};
 ghost use Rattle.ann_writer.specs.AnnOf.{ann_of};
+ghost use Rattle.project_machine.specs.History.{after};
+ghost use Rattle.project_machine.specs.ProjectState.{is_curator};
 ghost use Rattle.project_machine.specs.Requests as answers;
 ghost use Rattle.project_machine.specs.Requests.{ReadLayer, TakeSnapshot, Taken};
 ghost use Rattle.project_state.specs.Values.{view_of};
@@ -24,6 +27,7 @@ use named_disks::Disks;
 use program_inputs::{Trouble, give_project_back, open_project};
 use project_book::{Book, Reply, Request, Roster, SnapshotView};
 use project_journal::Keeper;
+use project_machine::states_can_be_restored;
 use std::alloc::Global;
 use std::sync::Arc;
 use std::sync::ledger::Ledger;
@@ -48,10 +52,13 @@ fn first_curator(roster: &Roster) -> Result<Slug, Memory>
     }
 }
 
-/// The first curator of a project.
+/// The first curator of a project, which has one.
 pub(crate) fn curator_in<K: Keeper>(project: &Book<K>) -> Result<Slug, Memory>
-    ensures { IfOk result (λ name. name ≡ curator_in project.now.log) }
+    ensures first { IfOk result (λ name. name ≡ curator_in project.now.log) }
+    ensures curates { IfOk result (λ name. is_curator (after project.now.log) name ≡ true) }
 {
+    states_can_be_restored();
+    project.keeps();
     let name = first_curator(project.roster())?;
     Ok(name)
 }
@@ -90,7 +97,8 @@ pub(crate) fn read_layer<K: Keeper, G: Ledger>(
 /// The .ann lines of a layer.
 fn lines_of(alloc: Global, read: &LayerRead) -> Result<Bytes, Memory>
     requires { IsWellFormed (arc_value read.now.conf) (length (arc_value read.now.doc)) (arc_value read.now.layer) }
-    ensures { IfOk result (λ bytes. bytes ≡ ann_of (arc_value read.now.conf) (arc_value read.now.doc) (arc_value read.now.layer)) }
+    ensures lines { IfOk result (λ bytes. bytes ≡ ann_of (arc_value read.now.conf) (arc_value read.now.doc) (arc_value read.now.layer)) }
+    ensures again { IfOk result (λ bytes. IsAnn (arc_value read.now.conf) (arc_value read.now.doc) bytes (arc_value read.now.layer)) }
 {
     let lines = ann_bytes(alloc, &read.layer, &read.doc, &read.conf)?;
     Ok(lines)
@@ -146,7 +154,8 @@ fn read_snapshot<K: Keeper, G: Ledger>(
 /// The curated layer of a snapshot, as .ann lines.
 fn curated_lines(alloc: Global, view: &SnapshotView) -> Result<Bytes, Memory>
     requires { CanBeViewed (view_of view.now) }
-    ensures { IfOk result (λ bytes. bytes ≡ ann_of (view_of view.now).conf (view_of view.now).text (curated_layer (view_of view.now))) }
+    ensures lines { IfOk result (λ bytes. bytes ≡ ann_of (view_of view.now).conf (view_of view.now).text (curated_layer (view_of view.now))) }
+    ensures again { IfOk result (λ bytes. IsAnn (view_of view.now).conf (view_of view.now).text bytes (curated_layer (view_of view.now))) }
 {
     let layer = view.decisions.curated(&view.snapshot)?;
     let lines = ann_bytes(alloc, &layer, &view.doc, &view.conf)?;

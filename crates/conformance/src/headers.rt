@@ -15,6 +15,8 @@ pub enum Form {
 #[derive(Clone, Copy, Debug, PartialEq, Eq)]
 pub enum Device {
     Folder,
+    /// The memory for what the folder reads.
+    Memory,
     Read,
     Write,
     Complaint,
@@ -184,6 +186,7 @@ fn form_of(rest: &str) -> Option<Form> {
 fn device_of(name: &str) -> Option<Device> {
     match name {
         "folder" => Some(Device::Folder),
+        "memory" => Some(Device::Memory),
         "read" => Some(Device::Read),
         "write" => Some(Device::Write),
         "complaint" => Some(Device::Complaint),

@@ -5,6 +5,7 @@
 //! differs is printed with the case's name, and the last line counts: `N passed, M failed`.
 #![tactic(auto)]
 
+mod case_folder;
 mod cases;
 mod compare;
 mod escapes;

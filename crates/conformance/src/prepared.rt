@@ -21,6 +21,8 @@ pub struct Left {
 #[derive(Debug, Drop)]
 pub struct Fails {
     pub folder: Vec<u64>,
+    /// The reads of the folder for which there is no memory.
+    pub memory: Vec<u64>,
     pub read: Vec<u64>,
     pub write: Vec<u64>,
     pub complaint: Vec<u64>,
@@ -33,6 +35,7 @@ impl Fails {
     /// Whether no call fails.
     pub fn is_none(&self) -> bool {
         self.folder.is_empty()
+            && self.memory.is_empty()
             && self.read.is_empty()
             && self.write.is_empty()
             && self.complaint.is_empty()
@@ -225,6 +228,7 @@ fn failing_of<'f>(
 fn all_fails<'f>(alloc: Global, case: &Written<'f>, common: &Written<'f>) -> Result<Fails, Memory> {
     Ok(Fails {
         folder: fails_of(alloc, case, common, Device::Folder)?,
+        memory: fails_of(alloc, case, common, Device::Memory)?,
         read: fails_of(alloc, case, common, Device::Read)?,
         write: fails_of(alloc, case, common, Device::Write)?,
         complaint: fails_of(alloc, case, common, Device::Complaint)?,

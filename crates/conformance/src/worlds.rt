@@ -2,6 +2,7 @@
 ghost use Rattle.std.specs.Prelude.{ℕ, List, IfOk};
 ghost use Rattle.named_disks.specs.NamedDisks.{IsIn};
 
+use crate::case_folder::CaseFolder;
 use crate::looks::{Look, Seen};
 use crate::malformed::Malformed;
 use crate::prepared::{Left, Prepared};
@@ -10,7 +11,6 @@ use annotation_cli::World;
 use annotation_cli::run::run_alone;
 use mark_base::{Bytes, Memory, MemoryLink, MemorySink, Text};
 use named_disks::{Disks, MemoryDisks};
-use program_inputs::MemoryFolder;
 use project_journal::MemoryDisk;
 use std::alloc::Global;
 
@@ -27,7 +27,7 @@ pub struct Outcome {
 /// A world in memory between two runs: no disk is out.
 #[derive(Drop)]
 struct Site {
-    world: World<MemoryFolder, MemoryLink, MemorySink, MemoryDisks>,
+    world: World<CaseFolder, MemoryLink, MemorySink, MemoryDisks>,
     ghost free: { (name : List ℕ) → IsIn (⟦<MemoryDisks as Disks>⟧.out world.disks) name },
 }
 
@@ -74,13 +74,14 @@ impl Site {
         &mut self,
         alloc: Global,
         files: &[(Text, Bytes)],
+        folder_wants: Vec<u64>,
         folder_fails: Vec<u64>,
         disks: MemoryDisks,
     ) -> Result<(), Memory>
         requires { (name : List ℕ) → IsIn (⟦<MemoryDisks as Disks>⟧.out disks) name }
     {
         let files = copied(alloc, files)?;
-        self.world.folder = MemoryFolder::new(files, folder_fails);
+        self.world.folder = CaseFolder::new(files, folder_wants, folder_fails);
         self.world.disks = disks;
         Ok(())
     }
@@ -184,7 +185,7 @@ fn disks_again(
 fn site_of(alloc: Global, case: &Prepared) -> Result<Site, Memory> {
     let files = copied(alloc, case.files.as_slice())?;
     let world = World {
-        folder: MemoryFolder::new(files, Vec::new(alloc)),
+        folder: CaseFolder::new(files, Vec::new(alloc), Vec::new(alloc)),
         console: console_of(alloc, Bytes::from_vec(Vec::new(alloc))),
         complaint: MemorySink::new(alloc, Vec::new(alloc)),
         disks: disks_of(alloc, case.disks.as_slice())?,
@@ -219,7 +220,8 @@ fn run_firsts(alloc: Global, case: &Prepared, site: &mut Site) -> Result<Option<
 /// to the looks behind it.
 fn looked(alloc: Global, case: &Prepared, site: &mut Site) -> Result<Vec<Seen>, Memory> {
     let disks = disks_again(alloc, case, &site.world.disks, Vec::new(alloc), &[])?;
-    site.renew(alloc, case.files.as_slice(), Vec::new(alloc), disks)?;
+    let none = Vec::new(alloc);
+    site.renew(alloc, case.files.as_slice(), none, Vec::new(alloc), disks)?;
     let mut seen = Vec::new(alloc);
     for look in &case.looks {
         match look {
@@ -254,8 +256,9 @@ fn run_over(
     let fails = case.fails.disks.clone()?;
     let failing = case.fails.failing.as_slice();
     let disks = disks_again(alloc, case, &site.world.disks, fails, failing)?;
+    let wants = case.fails.memory.clone()?;
     let folder_fails = case.fails.folder.clone()?;
-    site.renew(alloc, case.files.as_slice(), folder_fails, disks)?;
+    site.renew(alloc, case.files.as_slice(), wants, folder_fails, disks)?;
     let status = site.run(alloc, case.words.as_slice(), console, complaint);
     let left = site.left(alloc, status)?;
     let seen = looked(alloc, case, &mut site)?;

@@ -127,13 +127,22 @@ unable_here bytes at h some =
 -- ---- the whole session
 
 -- what a connection told, in the words of the project and of the bytes
-pub serves : (kept book : BookValue MemoryKeeper) (old new : Visiting) (input : List ℕ) (first now before held : Option (List ℕ)) (written : List ℕ) (log_now : List Happened)
-    → kept ≡ book → old ≡ visiting_alone book.log (last book.log) (fails_of_appends book.keeper).faults 18446744073709551615 → first ≡ Some input → before ≡ Some [] → held ≡ Some written → log_now ≡ new.seen
-    → ConnectionTold (IsFaultless (fails_of_appends kept.keeper)) Bare old new first now before held ending.End → says_unable written ≡ false → ServesAll (fails_of_appends book.keeper) book.log input log_now
-serves kept book old new input first now before held written log_now kept_is old_is first_is before_is held_is behind told able =
+pub serves : (kept book left : BookValue MemoryKeeper) (began room_now : ℕ) (old : Visiting) (input : List ℕ) (first now before held : Option (List ℕ)) (written : List ℕ) (log_now : List Happened)
+    → kept ≡ book → old ≡ visiting_alone book.log (last book.log) (fails_of_appends book.keeper).faults 18446744073709551615 → first ≡ Some input → before ≡ Some [] → held ≡ Some written → log_now ≡ left.log
+    → began ∷ [] ≡ old.badge
+    → ConnectionTold (IsFaultless (fails_of_appends kept.keeper)) Bare old (visiting_alone left.log began (fails_of_appends left.keeper).faults room_now) first now before held ending.End
+    → says_unable written ≡ false → ServesAll (fails_of_appends book.keeper) book.log input log_now
+serves kept book left began room_now old input first now before held written log_now kept_is old_is first_is before_is held_is behind badge told able =
     let seen : Visiting = visiting_alone book.log (last book.log) (fails_of_appends book.keeper).faults 18446744073709551615 in
+    let faults_now : ℕ = (fails_of_appends left.keeper).faults in
+    let place : began ≡ last book.log = only_place (badge ∙ ap (λ (v : Visiting). v.badge) old_is) in
+    let from : ConnectionTold (IsFaultless (fails_of_appends kept.keeper)) Bare old (visiting_alone left.log (last book.log) faults_now room_now) first now before held ending.End =
+    subst (λ (at : ℕ). ConnectionTold (IsFaultless (fails_of_appends kept.keeper)) Bare old (visiting_alone left.log at faults_now room_now) first now before held ending.End) place told in
+    let new : Visiting = visiting_alone log_now (last book.log) faults_now room_now in
+    let to : ConnectionTold (IsFaultless (fails_of_appends kept.keeper)) Bare old new first now before held ending.End =
+    subst (λ (log : List Happened). ConnectionTold (IsFaultless (fails_of_appends kept.keeper)) Bare old (visiting_alone log (last book.log) faults_now room_now) first now before held ending.End) (sym behind) from in
     let a : ConnectionTold (IsFaultless (fails_of_appends book.keeper)) Bare old new first now before held ending.End =
-    subst (λ (b : BookValue MemoryKeeper). ConnectionTold (IsFaultless (fails_of_appends b.keeper)) Bare old new first now before held ending.End) kept_is told in
+    subst (λ (b : BookValue MemoryKeeper). ConnectionTold (IsFaultless (fails_of_appends b.keeper)) Bare old new first now before held ending.End) kept_is to in
     let b : ConnectionTold (IsFaultless (fails_of_appends book.keeper)) Bare seen new first now before held ending.End =
     subst (λ (v : Visiting). ConnectionTold (IsFaultless (fails_of_appends book.keeper)) Bare v new first now before held ending.End) old_is a in
     let c : ConnectionTold (IsFaultless (fails_of_appends book.keeper)) Bare seen new (Some input) now before held ending.End =
@@ -142,4 +151,7 @@ serves kept book old new input first now before held written log_now kept_is old
     subst (λ (f : Option (List ℕ)). ConnectionTold (IsFaultless (fails_of_appends book.keeper)) Bare seen new (Some input) now f held ending.End) before_is c in
     let e : ConnectionTold (IsFaultless (fails_of_appends book.keeper)) Bare seen new (Some input) now (Some []) (Some written) ending.End =
     subst (λ (f : Option (List ℕ)). ConnectionTold (IsFaultless (fails_of_appends book.keeper)) Bare seen new (Some input) now (Some []) f ending.End) held_is d in
-    record { new = new; left = now; written = written; told = e; able = told_able e able; behind = behind }
+    record { faults_now = faults_now; room_now = room_now; left = now; written = written; told = e; able = told_able e able }
+  where
+    only_place : {x y : ℕ} → x ∷ [] ≡ y ∷ [] → x ≡ y
+    only_place e = cc

@@ -8,7 +8,6 @@ use Rattle.http_wire.specs.declared.stop.Stop.TheVariants as stop
 use Rattle.http_wire.specs.Messages.{Messages}
 use Rattle.project_machine.specs.Requests.{Happened}
 use Rattle.project_machine.specs.History.{last}
-use Rattle.project_machine.specs.Asking.{Visiting}
 use Rattle.project_book.specs.Visits.{visiting_alone}
 use Rattle.annotation_http.specs.Exchanges.Connections.{Bare}
 use Rattle.annotation_http.specs.Connection.Session.{ConnectionTold}
@@ -26,11 +25,11 @@ pub record HasMessages (bytes : List ℕ) (count : ℕ) : Type 0 where
   pub are : Messages bytes messages stop.End
   pub number : length messages ≡ count
 
--- the messages were served as one connection to a project with a history, over a keeper in memory whose appends fail so, to the end of the bytes. That the project then has this history
+-- the messages were served as one connection to a project with a history, over a keeper in memory whose appends fail so, to the end of the bytes. The project then has this history, and nobody else changed it meanwhile
 pub record ServesAll (appends : FailState) (log : List Happened) (input : List ℕ) (log_now : List Happened) : Type 0 where
-  pub new : Visiting
+  pub faults_now : ℕ
+  pub room_now : ℕ
   pub left : Option (List ℕ)
   pub written : List ℕ
-  pub told : ConnectionTold (IsFaultless appends) Bare (visiting_alone log (last log) appends.faults 18446744073709551615) new (Some input) left (Some []) (Some written) ending.End
+  pub told : ConnectionTold (IsFaultless appends) Bare (visiting_alone log (last log) appends.faults 18446744073709551615) (visiting_alone log_now (last log) faults_now room_now) (Some input) left (Some []) (Some written) ending.End
   pub able : list_any (λ given. given.answer.status == 503) (talk_of told).answers ≡ false
-  pub behind : log_now ≡ new.seen

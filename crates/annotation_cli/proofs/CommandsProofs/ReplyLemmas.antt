@@ -180,7 +180,7 @@ refuses_to : (log : List Happened) (caller : List ℕ) (asked : Asked) (r : Book
 unfolding trouble_in
 refuses_to log caller asked r named now (steps is now_is room) = refuses r named (sym is) refl
 refuses_to log caller asked r named now (wants_memory is now_is) = lacks_memory (ap trouble_in is)
-refuses_to log caller asked r named now (is_not_kept is now_is some room) = fails_to_keep (ap trouble_in is)
+refuses_to log caller asked r named now (is_not_kept is now_is some room) = fails_to_keep some (ap trouble_in is)
 
 -- why a refused request ends a command
 pub refused_by : (log : List Happened) (caller : List ℕ) (asked : Asked) (answer : Answered) (r : BookRefusal) (now : List Happened) → IsStep log caller asked answer now

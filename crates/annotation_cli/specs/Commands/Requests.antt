@@ -1,5 +1,5 @@
 -- What a request of a command comes to, and why it ends the command.
-use Rattle.std.specs.Prelude.{◌≡◌, ◌⊎◌, ℕ, Bool, true, List, is_some, length, Option, Some, None}
+use Rattle.std.specs.Prelude.{◌≡◌, ◌⊎◌, ℕ, Bool, true, List, is_some, length, Option, Some, None, IsSome}
 use Rattle.char_documents.specs.Tokens.{tokens_of}
 use Rattle.entry_bytes.specs.declared.person.Person.{Person}
 use Rattle.annotation_conf.specs.Configurations.{Configuration}
@@ -32,11 +32,11 @@ trouble_of no.Keeper = trouble.DiskFailed
 trouble_of no.Memory = trouble.Memory
 trouble_of refusal = trouble.Refused refusal
 
--- why a request ends a command: the project refuses it; or memory ran out; or the change was not kept, since a disk failed
+-- why a request ends a command: the project refuses it; or memory ran out; or it makes a change, which was not kept, since a disk failed
 pub data RefusesTo (log : List Happened) (caller : List ℕ) (asked : Asked) (why : Trouble) : Type 0 where
   refuses : (refusal : BookRefusal) (named : List ℕ) → (step_at log caller asked).answer ≡ Refused refusal named → why ≡ trouble_of refusal → RefusesTo log caller asked why
   lacks_memory : why ≡ trouble.Memory → RefusesTo log caller asked why
-  fails_to_keep : why ≡ trouble.DiskFailed → RefusesTo log caller asked why
+  fails_to_keep : IsSome (step_at log caller asked).change → why ≡ trouble.DiskFailed → RefusesTo log caller asked why
 
 -- the refusal that an answer is, if it is one
 abbrev pub refusal_in : Answered → Option BookRefusal

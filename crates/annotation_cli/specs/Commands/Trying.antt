@@ -5,7 +5,6 @@ use Rattle.entry_bytes.specs.declared.person.Person.{Person}
 use Rattle.annotation_conf.specs.Configurations.{Configuration}
 use Rattle.project_machine.specs.Requests.{AddText, Checkout, Happened}
 use Rattle.project_machine.specs.History.{last}
-use Rattle.project_machine.specs.Asking.{Visiting}
 use Rattle.project_book.specs.Founding.{founded}
 use Rattle.project_book.specs.Visits.{visiting_alone}
 use Rattle.annotation_http.specs.Exchanges.Connections.{Holding, Holds}
@@ -84,10 +83,12 @@ pub record ServesNothing (conf_file text_file : Option (Option (List ℕ))) (fau
   pub unread : now ≡ left
   pub unwritten : written ≡ before
 
--- the console was served from what is held behind a history, over a keeper in memory whose appends fail so
+-- the console was served from what is held behind a history, over a keeper in memory whose appends fail so; nobody else changed the project meanwhile
 pub record ServedFrom (held : Holding) (log : List Happened) (appends : FailState) (left now before written : Option (List ℕ)) (done : Result (Unit {0}) Trouble) : Type 0 where
-  pub new : Visiting
-  pub served : Serves (IsFaultless appends) (Holds held) (visiting_alone log (last log) appends.faults 18446744073709551615) new left now before written done
+  pub log_now : List Happened
+  pub faults_now : ℕ
+  pub room_now : ℕ
+  pub served : Serves (IsFaultless appends) (Holds held) (visiting_alone log (last log) appends.faults 18446744073709551615) (visiting_alone log_now (last log) faults_now room_now) left now before written done
 
 -- the console was served from the desk of the files' project, over a keeper that does not fail
 pub record ServesFiles (conf_file text_file : Option (Option (List ℕ))) (left now before written : Option (List ℕ)) (done : Result (Unit {0}) Trouble) : Type 0 where

@@ -42,6 +42,7 @@ pub fn serve<V: Visitor, C: Link, G: Ledger>(
     requires legal { IsLegal (V.visiting visitor.old).seen }
     ensures told { Serves (V.faultless visitor.old) (connection_of start) (V.visiting visitor.old) (V.visiting visitor.new) (C.left console.old) (C.left console.new) (C.held console.old) (C.held console.new) result }
     ensures legal { IsLegal (V.visiting visitor.new).seen }
+    ensures badge { (V.visiting visitor.new).badge ≡ (V.visiting visitor.old).badge }
     ensures stays { V.faultless visitor.old → V.faultless visitor.new }
     ensures folder { IfErr result (λ trouble. trouble ≢ Trouble.FileFailed) }
     ensures disk { IfErr result (λ trouble. trouble ≢ Trouble.DiskFailed) }

@@ -5,4 +5,4 @@ use Rattle.annotation_cli.proofs.agreeing.agreement_here.Goals as goal
 
 pub returns-in-Err-clause-refused : goal.returns-in-Err-clause-refused
 returns-in-Err-clause-refused g c =
-    inl (subst (λ (caller : List ℕ). RefusesTo c.args.project.now.log caller ReadPairs c.in-Err.why) c.in_ok-caller.ensures c.in-Err.ensures.refused)
+    inl (subst (λ (caller : List ℕ). RefusesTo c.args.project.now.log caller ReadPairs c.in-Err.why) c.in_ok-caller.ensures.first c.in-Err.ensures.refused)

@@ -4,7 +4,8 @@ use Rattle.std.specs.Arc.{arc_value}
 use Rattle.layer_model.specs.Annotations.{Annotations}
 use Rattle.layer_model.specs.Layers.{IsLayer}
 use Rattle.project_machine.specs.Requests.{Refused}
-use Rattle.annotation_cli.proofs.CommandsProofs.ReplyLemmas.{refused_by, tells_refused}
+use Rattle.annotation_cli.proofs.CommandsProofs.ReplyLemmas.{tells_refused}
+use Rattle.annotation_cli.proofs.CuratorLemmas.{reads_or_memory}
 use Rattle.annotation_cli.proofs.scoring.committed_layer.Goals as goal
 
 pub returns-in-Layer-clause-whole : goal.returns-in-Layer-clause-whole
@@ -14,7 +15,7 @@ returns-in-Layer-clause-whole g c =
 
 pub returns-in-Refused-clause-refused : goal.returns-in-Refused-clause-refused
 returns-in-Refused-clause-refused g c =
-    rw c.trouble_of.ensures.value (refused_by _ _ _ (Refused c.in-Refused.refusal c.in-Refused._named) c.in-Refused.refusal _ c.in-Refused.ensures.step refl)
+    rw c.trouble_of.ensures.value (reads_or_memory _ _ _ _ c.in-Refused.refusal c.in-Refused._named _ c.requires.curates c.requires.there c.requires.annotates c.in-Refused.ensures.step c.in_default-refusal.not-NoLayer)
 
 pub returns-in-Refused-clause-keeper : goal.returns-in-Refused-clause-keeper
 returns-in-Refused-clause-keeper g c =

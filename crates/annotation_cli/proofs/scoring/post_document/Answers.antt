@@ -2,7 +2,7 @@ use Rattle.std.proofs.Common.{◌≡◌, ℕ, ◌<◌, List, length, map, [], �
 use Rattle.layer_model.specs.Annotations.{Annotations}
 use Rattle.match_scores.specs.Standing.{Standing}
 use Rattle.project_machine.specs.History.{after}
-use Rattle.project_machine.specs.ProjectState.{is_annotator, row_in}
+use Rattle.project_machine.specs.ProjectState.{is_annotator, is_curator, is_there, row_in}
 use Rattle.project_machine.specs.Requests.{Happened}
 use Rattle.annotation_cli.specs.Scoring.{committed_in, posted_if}
 use Rattle.annotation_cli.proofs.KeeperLemmas.{call_done, no_call, one_call}
@@ -16,6 +16,12 @@ loop-rater-init g c = record {
   keeper = no_call g.K.Keeper.faults g.K.Keeper.faultless _;
   certain = λ none. none;
 }
+
+pub post_layer-requires-clause-curates : goal.post_layer-requires-clause-curates
+post_layer-requires-clause-curates g c = subst (λ (log : List Happened). is_curator (after log) c.args.caller.now ≡ true) (sym c.loop-rater.invariant.still) c.requires.curates
+
+pub post_layer-requires-clause-there : goal.post_layer-requires-clause-there
+post_layer-requires-clause-there g c = subst (λ (log : List Happened). is_there (after log) c.args.name.now ≡ true) (sym c.loop-rater.invariant.still) c.requires.there
 
 pub post_layer-requires-clause-annotates : goal.post_layer-requires-clause-annotates
 post_layer-requires-clause-annotates g c =

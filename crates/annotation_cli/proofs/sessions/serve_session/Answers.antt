@@ -12,9 +12,9 @@ returns-clause-told g c =
       opened = c.in_ok-project.ensures.opened;
       served = record {
         faults = served.faults;
-        new = served.new;
+        faults_now = served.faults_now;
+        room_now = served.room_now;
         served = serves _ (g.D.Disks.faultless c.args.disks.now) c.in_ok-project.ensures.sure Bare _ _ _ _ _ _ _ served.served;
-        behind = served.behind;
       };
       kept = λ sure. c.give_project_back.ensures.certain (c.serve_alone-project.ensures.stays (c.in_ok-project.ensures.sure sure));
     })

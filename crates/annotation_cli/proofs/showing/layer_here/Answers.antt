@@ -17,5 +17,6 @@ returns-clause-shown g c = record {
   granted = subst (λ (owner : List ℕ). Grants c.args.project.now.log c.args.who.now (ReadLayer c.args.name owner)
       (answers.Layer (arc_value c.in-Ok.read.layer) (arc_value c.in-Ok.read.doc) (arc_value c.in-Ok.read.conf)) c.read_layer.new.project.log)
       c.in_ok-owner.ensures c.in-Ok.ensures.granted;
-  lines = c.in_ok-lines.ensures;
+  lines = c.in_ok-lines.ensures.lines;
+  again = c.in_ok-lines.ensures.again;
 }

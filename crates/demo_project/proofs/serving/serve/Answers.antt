@@ -7,6 +7,7 @@ use Rattle.demo_project.proofs.serving.serve.Goals as goal
 pub returns : goal.returns
 returns g c = record {
   told =
-      serves _ _ _ _ _ _ _ _ _ _ _ c.new-visitor.ensures.book c.new-visitor.ensures.visiting c.new-link.ensures.left c.new-link.ensures.held c.written.ensures
-      (ap (λ (b : BookValue MemoryKeeper). b.log) c.into_book.ensures) c.in-End.ensures.session (sym c.says_unable.ensures ∙ c.if-says_unable.false);
+      let now = c.serve_link.new.visitor in
+      serves _ _ now.book now.began now.room _ _ _ _ _ _ _ _ c.new-visitor.ensures.book c.new-visitor.ensures.visiting c.new-link.ensures.left c.new-link.ensures.held c.written.ensures
+      (ap (λ (b : BookValue MemoryKeeper). b.log) c.into_book.ensures) c.in-End.ensures.badge c.in-End.ensures.session (sym c.says_unable.ensures ∙ c.if-says_unable.false);
 }
