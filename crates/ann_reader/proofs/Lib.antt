@@ -11,6 +11,7 @@ pub mod HeldLemmas
 pub mod KeptLemmas
 pub mod LetterLemmas
 pub mod LineFaultLemmas
+pub mod LineLemmas
 pub mod MemberLemmas
 pub mod NamedLemmas
 pub mod PartLemmas
@@ -30,3 +31,4 @@ pub mod TextCuts
 pub mod TextLemmas
 pub mod UniqueLemmas
 pub mod WholeLayer
+pub mod WordLemmas

@@ -1,11 +1,11 @@
 //! The lines of an .ann file, and the fields of a line.
-ghost use Rattle.std.specs.Prelude.{◌≡◌, ◌≤◌, ◌<◌, ◌-◌, ◌==◌, length, map, take, drop, slice_index, IfOk};
-ghost use Rattle.std.specs.List.{before_first, after_first, list_any, position_or_len, slice_split, suffix_len};
-ghost use Rattle.ann_reader.specs.Lines.{is_blank, lines_of, is_gap, without_gap, without_return, without_end};
+ghost use Rattle.std.specs.Prelude.{◌≡◌, ◌≤◌, ◌<◌, ◌-◌, ◌==◌, ◌++◌, [], ◌∷◌, length, map, take, drop, slice_index, IfOk, OnOk, MatchOption};
+ghost use Rattle.std.specs.List.{before_first, after_first, list_any, position_or_len, suffix_len};
+ghost use Rattle.ann_reader.specs.Lines.{is_blank, lines_from, lines_of, is_gap, without_gap, without_return, without_end};
 ghost use Rattle.ann_reader.specs.LineShows.{seen_line};
 
 use mark_base::Memory;
-use std::alloc::{AllocError, Global};
+use std::alloc::Global;
 
 /// A line by its number, from 1, and its text without the line feed.
 #[derive(Drop)]
@@ -23,11 +23,14 @@ fn is_blank(bytes: &[u8]) -> bool
         .all(|byte| *byte == b' ' || *byte == b'\t' || *byte == b'\r')
 }
 
-/// What line feeds separate.
-fn pieces(alloc: Global, text: &str) -> Result<Vec<&str>, AllocError>
-    ensures { IfOk result (λ pieces. map (λ piece. piece.now) pieces.items ≡ slice_split (λ b. b == 10) text.now) }
+/// Keeps a line that is not blank.
+fn keep_line<'a>(lines: &mut Vec<Line<'a>>, number: u32, text: &'a str) -> Result<(), Memory>
+    ensures { OnOk result (map seen_line lines.new.items ≡ map seen_line lines.old.items ++ lines_from number (text.now ∷ [])) }
 {
-    text.split('\n').collect(alloc)
+    if !is_blank(text.as_bytes()) {
+        lines.push(Line { number, text })?;
+    }
+    Ok(())
 }
 
 /// The lines of a text that are not blank. Cost: the text.
@@ -35,19 +38,18 @@ pub(crate) fn lines(alloc: Global, text: &str) -> Result<Vec<Line>, Memory>
     requires { length text.now ≤ 16777216 }
     ensures { IfOk result (λ lines. map seen_line lines.items ≡ lines_of text.now) }
 {
-    let pieces = pieces(alloc, text)?;
     let mut lines = Vec::new(alloc);
     let mut number: u32 = 1;
-    for piece in &pieces {
-        if !is_blank(piece.as_bytes()) {
-            lines.push(Line {
-                number,
-                text: piece,
-            })?;
+    let mut rest = text;
+    loop {
+        let end = place_of(rest.as_bytes(), b'\n');
+        keep_line(&mut lines, number, front(rest, end))?;
+        if end >= rest.len() {
+            return Ok(lines);
         }
         number += 1;
+        rest = back(rest, end + 1);
     }
-    Ok(lines)
 }
 
 /// The front of a text, up to an ASCII character or its end.
@@ -107,6 +109,22 @@ pub(crate) fn behind(text: &str, wanted: u8) -> &str
         back(text, place + 1)
     } else {
         ""
+    }
+}
+
+/// What stands before the first such ASCII character and what stands behind it, where there is one. Cost: what stands
+/// before it.
+pub(crate) fn cut(text: &str, wanted: u8) -> Option<(&str, &str)>
+    requires { wanted < 128 }
+    ensures { MatchOption result (position_or_len (λ b. b == wanted) text.now ≡ length text.now)
+        (λ parts. (position_or_len (λ b. b == wanted) text.now < length text.now)
+        × (parts.0.now ≡ before_first (λ b. b == wanted) text.now) × (parts.1.now ≡ after_first (λ b. b == wanted) text.now)) }
+{
+    let place = place_of(text.as_bytes(), wanted);
+    if place < text.len() {
+        Some((front(text, place), back(text, place + 1)))
+    } else {
+        None
     }
 }
 

@@ -1,16 +1,16 @@
 //! The words of a field, and how fragments are spelt.
-ghost use Rattle.std.specs.Prelude.{◌≡◌, ◌≤◌, ◌<◌, ◌-◌, ◌==◌, map, length, slice_index, IfOk, option_map};
+ghost use Rattle.std.specs.Prelude.{◌≡◌, ◌≤◌, ◌<◌, ◌-◌, ◌==◌, map, length, drop, slice_index, IfOk, option_map};
 ghost use Rattle.std.specs.List.{slice_split, prefix_len};
 ghost use Rattle.mark_base.specs.AnnIds.{number_read};
-ghost use Rattle.ann_reader.specs.Words.{is_space, is_padded, words_of, behind_word, frag_of, frag_read, all_of};
+ghost use Rattle.ann_reader.specs.Words.{is_space, is_padded, words_of, frag_of, frag_read, all_of};
 ghost use Rattle.ann_reader.specs.LineForms.{frags_read};
 
-use crate::line::{back, behind};
+use crate::line::{back, cut};
 use mark_base::{Frag, Memory, number_read, split_fragments};
 use std::alloc::{AllocError, Global};
 
 /// Whether a space stands before the first word or behind the last.
-fn is_padded(bytes: &[u8]) -> bool
+pub(crate) fn is_padded(bytes: &[u8]) -> bool
     ensures { result ≡ is_padded bytes.now }
 {
     match bytes {
@@ -57,12 +57,11 @@ fn spaces_before(bytes: &[u8]) -> usize
     bytes.len()
 }
 
-/// What stands behind the first word and the spaces that follow it.
-pub(crate) fn behind_word(field: &str) -> &str
-    ensures { result.now ≡ behind_word field.now }
+/// A text without the spaces at its start.
+pub(crate) fn without_spaces(text: &str) -> &str
+    ensures { result.now ≡ drop (prefix_len is_space text.now) text.now }
 {
-    let rest = behind(field, b' ');
-    back(rest, spaces_before(rest.as_bytes()))
+    back(text, spaces_before(text.as_bytes()))
 }
 
 /// The first byte, or 0 where there is none.
@@ -84,13 +83,16 @@ fn frag_of(start: &str, end: &str) -> Option<Frag>
     Some(Frag { start, end })
 }
 
-/// The fragment that some words spell.
-fn frag_read(words: &[&str]) -> Option<Frag>
-    ensures { result ≡ frag_read (map (λ word. word.now) words.now) }
+/// The fragment that a piece spells, which is two words. Cost: the piece.
+fn frag_read(piece: &str) -> Option<Frag>
+    ensures { result ≡ frag_read (words_of piece.now) }
 {
-    match words {
-        [start, end] => frag_of(start, end),
-        _ => None,
+    if is_padded(piece.as_bytes()) {
+        return None;
+    }
+    match cut(piece, b' ') {
+        Some((start, rest)) => frag_of(start, without_spaces(rest)),
+        None => None,
     }
 }
 
@@ -100,8 +102,7 @@ fn all_frags(alloc: Global, pieces: &[&str]) -> Result<Option<Vec<Frag>>, Memory
 {
     let mut frags = Vec::new(alloc);
     for piece in pieces {
-        let words = words(alloc, piece)?;
-        match frag_read(&words) {
+        match frag_read(piece) {
             Some(frag) => frags.push(frag)?,
             None => return Ok(None),
         }

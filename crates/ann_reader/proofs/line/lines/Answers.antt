@@ -1,24 +1,46 @@
-use Rattle.std.proofs.Common.{◌≡◌, ◌≤◌, ◌+◌, ◌++◌, ◌==◌, refl, ap, ◌∙◌, sym, length, arith, map, List}
-use Rattle.std.specs.List.{slice_split}
-use Rattle.std.proofs.lemmas.List.{append-nil}
-use Rattle.ann_reader.specs.declared.line.Line.{Line as LineValue}
+use Rattle.std.proofs.Common.{◌≡◌, ℕ, ◌≤◌, ◌+◌, ◌-◌, ◌<◌, ◌++◌, ◌==◌, ◌∷◌, [], sym, ◌∙◌, ap, length, take, drop, length-drop, append_assoc, arith, map, List}
+use Rattle.std.specs.List.{slice_split, position_or_len, before_first, after_first}
+use Rattle.std.proofs.lemmas.List.{take_all}
+use Rattle.std.proofs.lemmas.List.Splits.{slice_split_none, slice_split_first}
+use Rattle.std.proofs.lemmas.List.Sums.{fails_before_first}
 use Rattle.ann_reader.specs.Lines.{Line, lines_from, lines_of}
 use Rattle.ann_reader.specs.LineShows.{seen_line}
-use Rattle.ann_reader.proofs.StepLemmas.{none_left}
-use Rattle.ann_reader.proofs.TextCuts.{pieces_few}
+use Rattle.ann_reader.proofs.LineLemmas.{line_kept}
 use Rattle.ann_reader.proofs.line.lines.Goals as goal
 
-pub loop-piece-init : goal.loop-piece-init
-loop-piece-init c =
-    let same : map (λ piece. piece.now) c.deref-piece-items.result.now ≡ slice_split (λ b. b == 10) c.args.text.now = rw c.deref-piece-items.ensures.value c.in_ok-pieces.ensures in
-    let few : length c.deref-piece-items.result.now ≤ length c.args.text.now + 1 = pieces_few c.args.text.now c.deref-piece-items.result.now same in
-    record { count = refl; few = omega arith; same = same; told = ap (λ (items : List LineValue). map seen_line items ++ lines_from 1 (map (λ piece. piece.now) c.deref-piece-items.result.now)) c.new-lines.ensures.items }
+pub loop-lines-preserved : goal.loop-lines-preserved
+loop-lines-preserved c =
+    let rest : List ℕ = c.loop-lines.rest.now in
+    let number : ℕ = c.loop-lines.number in
+    let seen : List Line = map seen_line c.loop-lines.lines.items in
+    let at : c.place_of-end.result ≡ position_or_len (λ b. b == 10) rest = c.place_of-end.ensures.value ∙ ap (position_or_len (λ b. b == 10)) c.as_bytes.ensures.value in
+    let within : c.place_of-end.result < length rest = c.if-end-rest.false in
+    let below : position_or_len (λ b. b == 10) rest < length rest = omega (arith, at, within) in
+    let line : c.front.result.now ≡ before_first (λ b. b == 10) rest = c.front.ensures ∙ ap (λ n. take n rest) at in
+    let more : c.back-rest.result.now ≡ after_first (λ b. b == 10) rest = c.back-rest.ensures ∙ ap (λ n. drop (n + 1) rest) at in
+    let left : length (after_first (λ b. b == 10) rest) ≡ length rest - (position_or_len (λ b. b == 10) rest + 1) = length-drop (position_or_len (λ b. b == 10) rest + 1) rest in
+    let same : length c.back-rest.result.now ≡ length (after_first (λ b. b == 10) rest) = ap length more in
+    let fits : number + length rest ≤ 16777217 = c.loop-lines.invariant.few in
+    let cut : slice_split (λ b. b == 10) rest ≡ c.front.result.now ∷ slice_split (λ b. b == 10) c.back-rest.result.now =
+    slice_split_first (λ b. b == 10) rest 0 below ∙ sym (ap (λ l. l ∷ slice_split (λ b. b == 10) c.back-rest.result.now) line ∙ ap (λ m. before_first (λ b. b == 10) rest ∷ slice_split (λ b. b == 10) m) more) in
+    record {
+      few = omega (arith, below, left, same, fits);
+      text = c.back-rest.utf8;
+      told = ap (λ ls. ls ++ lines_from (number + 1) (slice_split (λ b. b == 10) c.back-rest.result.now)) c.in_ok-keep_line.ensures
+          ∙ append_assoc seen (lines_from number (c.front.result.now ∷ [])) (lines_from (number + 1) (slice_split (λ b. b == 10) c.back-rest.result.now))
+          ∙ ap (λ ls. seen ++ ls) (line_kept number c.front.result.now (slice_split (λ b. b == 10) c.back-rest.result.now) ∙ sym (ap (lines_from number) cut))
+          ∙ c.loop-lines.invariant.told;
+    }
 
-pub returns : goal.returns
+pub returns-then-end-rest : goal.returns-then-end-rest
 unfolding lines_of
-returns c =
-    let over : length c.deref-piece-items.result.now ≤ c.loop-piece.piece-index = c.loop-piece-test.false in
-    let seen : List Line = map seen_line c.loop-piece.lines.items in
-    sym (append-nil seen)
-    ∙ ap (λ ls. seen ++ lines_from c.loop-piece.number ls) (sym (none_left (λ piece. piece.now) c.deref-piece-items.result.now c.loop-piece.piece-index over))
-    ∙ c.loop-piece.invariant.told ∙ ap (lines_from 1) c.loop-piece.invariant.same
+returns-then-end-rest c =
+    let rest : List ℕ = c.loop-lines.rest.now in
+    let seen : List Line = map seen_line c.loop-lines.lines.items in
+    let at : c.place_of-end.result ≡ position_or_len (λ b. b == 10) rest = c.place_of-end.ensures.value ∙ ap (position_or_len (λ b. b == 10)) c.as_bytes.ensures.value in
+    let over : length rest ≤ c.place_of-end.result = c.if-end-rest.true in
+    let one : slice_split (λ b. b == 10) rest ≡ rest ∷ [] = slice_split_none (λ b. b == 10) rest (λ k d below. fails_before_first (λ b. b == 10) rest k d (omega (arith, at, over, below))) in
+    c.in_ok-keep_line.ensures
+    ∙ ap (λ l. seen ++ lines_from c.loop-lines.number (l ∷ [])) (c.front.ensures ∙ take_all c.place_of-end.result rest over)
+    ∙ sym (ap (λ ls. seen ++ lines_from c.loop-lines.number ls) one)
+    ∙ c.loop-lines.invariant.told
