@@ -7,7 +7,7 @@ use Rattle.std.proofs.lemmas.Str.{utf8_valid_len-IsUtf8}
 use Rattle.std.proofs.lemmas.Bool.{cond-true, cond-false, lt-ltb, le-ltb}
 use Rattle.std.proofs.lemmas.List.Splits.{length-slice_split}
 use Rattle.std.proofs.lemmas.List.Sums.{count_by-le-length}
-use Rattle.annotation_conf.specs.Configurations.{Configuration}
+use Rattle.conf_model.specs.Configurations.{Configuration}
 use Rattle.layer_model.specs.Annotations.{Annotations}
 use Rattle.ann_reader.specs.declared.ann_fault.AnnFault.{AnnFault}
 use Rattle.ann_reader.specs.declared.ann_fault.AnnFault.TheVariants.{At, Memory}

@@ -7,15 +7,15 @@ use Rattle.mark_base.specs.declared.ann_id.AnnId.{AnnId}
 use Rattle.mark_base.specs.declared.table_places.TypeId.{TypeId}
 use Rattle.mark_base.specs.declared.arguments.Arg.{Arg}
 use Rattle.mark_base.specs.Names.{name_fault}
-use Rattle.annotation_conf.specs.Configurations.{Configuration}
-use Rattle.annotation_conf.specs.Lookups.{values_of}
+use Rattle.conf_model.specs.Configurations.{Configuration}
+use Rattle.conf_model.specs.Lookups.{values_of}
 use Rattle.layer_model.specs.declared.mark.Mark.{Mark}
 use Rattle.layer_model.specs.declared.mark.Mark.TheVariants as sort
 use Rattle.layer_model.specs.declared.rule.Rule.{Rule}
 use Rattle.layer_model.specs.declared.rule.Rule.TheVariants.{UnknownType, NotForUse, UnknownRole, UnknownValue}
 use Rattle.layer_model.specs.Coherent.{is_span_letter}
 use Rattle.layer_core.specs.CommandRules.{Valued, Undeclared, Declared, value_refused}
-use Rattle.layer_core.specs.MarkRules.{where_so, Wanted, first_unwanted}
+use Rattle.layer_rules.specs.MarkRules.{where_so, Wanted, first_unwanted}
 use Rattle.ann_reader.specs.declared.ann_fault.AnnWhat.TheVariants.{BadLine, BadId, IdTwice, Broken}
 use Rattle.ann_reader.specs.Roles.{role_read}
 use Rattle.ann_reader.specs.Lines.{Line}

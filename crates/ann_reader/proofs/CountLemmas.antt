@@ -9,12 +9,12 @@ use Rattle.std.proofs.lemmas.List.Sums.{fold_push}
 use Rattle.mark_base.specs.declared.ann_id.AnnId.{AnnId}
 use Rattle.mark_base.specs.declared.ann_id.Kind.{Kind}
 use Rattle.mark_base.specs.declared.ann_id.Kind.TheVariants as letter
-use Rattle.annotation_conf.specs.Configurations.{Configuration}
+use Rattle.conf_model.specs.Configurations.{Configuration}
 use Rattle.layer_model.specs.declared.mark.Mark.{Mark}
 use Rattle.layer_model.specs.declared.mark.Mark.TheVariants as marked
 use Rattle.layer_model.specs.Annotations.{Annotations, no_marks}
 use Rattle.layer_model.specs.Layers.{has, has_number, is_of_kind, with_marked, with_mark}
-use Rattle.layer_core.specs.LayerRules.{counted_letter}
+use Rattle.layer_rules.specs.LayerRules.{counted_letter}
 use Rattle.ann_reader.specs.Lines.{Line}
 use Rattle.mark_base.specs.AnnIds.{kind_read}
 use Rattle.ann_reader.specs.LineForms.{Form, BadForm, TextForm, EventForm, RelationForm, AttributeForm, ClassForm, NormalForm, NoteForm, form_of}

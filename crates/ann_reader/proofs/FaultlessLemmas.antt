@@ -8,14 +8,14 @@ use Rattle.std.proofs.lemmas.List.{append_assoc}
 use Rattle.mark_base.specs.declared.ann_id.AnnId.{AnnId}
 use Rattle.mark_base.specs.declared.ann_id.Kind.{Kind}
 use Rattle.char_documents.specs.Texts.{all_lie_in, reference_text}
-use Rattle.annotation_conf.specs.Configurations.{Configuration}
+use Rattle.conf_model.specs.Configurations.{Configuration}
 use Rattle.layer_model.specs.declared.rule.Rule.{Rule}
 use Rattle.layer_model.specs.declared.rule.Rule.TheVariants.{UnknownType, NotForUse, UnknownRole, UnknownValue, BadText}
 use Rattle.layer_model.specs.Annotations.{Annotations}
 use Rattle.layer_model.specs.Layers.{IsLayer, has}
-use Rattle.layer_core.specs.MarkRules.{where_so}
-use Rattle.layer_core.specs.WellFormed.{least_flaw}
-use Rattle.layer_core.proofs.LawLemmas.{well_formed_is_unflawed}
+use Rattle.layer_rules.specs.MarkRules.{where_so}
+use Rattle.layer_rules.specs.WellFormed.{least_flaw}
+use Rattle.layer_rules.proofs.LawLemmas.{well_formed_is_unflawed}
 use Rattle.ann_reader.specs.declared.ann_fault.AnnWhat.TheVariants.{Broken}
 use Rattle.ann_reader.specs.Lines.{Line, lines_of}
 use Rattle.mark_base.specs.AnnIds.{kind_read}

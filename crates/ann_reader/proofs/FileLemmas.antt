@@ -3,11 +3,11 @@ use Rattle.std.proofs.Common.{◌≡◌, ℕ, ◌==◌, true, false, List, [], �
 use Rattle.std.specs.Prelude.{IsUtf8}
 use Rattle.std.specs.Option.{option_or}
 use Rattle.std.specs.List.{list_any, slice_split, AllByRecursion}
-use Rattle.annotation_conf.specs.Configurations.{Configuration}
+use Rattle.conf_model.specs.Configurations.{Configuration}
 use Rattle.layer_model.specs.Annotations.{Annotations, no_marks}
 use Rattle.layer_model.specs.Layers.{has}
-use Rattle.layer_core.specs.WellFormed.{IsWellFormed, least_flaw}
-use Rattle.layer_core.proofs.LawLemmas.{unflawed_is_well_formed}
+use Rattle.layer_rules.specs.WellFormed.{IsWellFormed, least_flaw}
+use Rattle.layer_rules.proofs.LawLemmas.{unflawed_is_well_formed}
 use Rattle.mark_base.specs.declared.ann_id.AnnId.{AnnId}
 use Rattle.ann_reader.specs.Lines.{Line, lines_of}
 use Rattle.ann_reader.specs.LineForms.{Form, BadForm, TextForm, EventForm, RelationForm, AttributeForm, ClassForm, NormalForm, NoteForm, form_of}

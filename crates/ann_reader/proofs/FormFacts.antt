@@ -8,7 +8,7 @@ use Rattle.mark_base.specs.declared.ann_id.AnnId.{AnnId}
 use Rattle.mark_base.specs.declared.ann_id.Kind.{Kind}
 use Rattle.mark_base.specs.declared.ann_id.Kind.TheVariants as letter
 use Rattle.mark_base.specs.declared.fragments.Frag.{Frag}
-use Rattle.annotation_conf.specs.Configurations.{Configuration}
+use Rattle.conf_model.specs.Configurations.{Configuration}
 use Rattle.layer_model.specs.declared.mark.Mark.{Mark}
 use Rattle.layer_model.specs.Layers.{is_of_kind}
 use Rattle.mark_base.specs.ReadIds.{id_at, id_read}

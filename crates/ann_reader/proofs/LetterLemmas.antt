@@ -4,7 +4,7 @@ use Rattle.std.proofs.lemmas.Bool.{eqb-true}
 use Rattle.mark_base.specs.declared.ann_id.Kind.{Kind}
 use Rattle.mark_base.specs.declared.ann_id.Kind.TheVariants as letter
 use Rattle.mark_base.specs.AnnIds.{letter_of, kind_read}
-use Rattle.layer_core.specs.LayerRules.{counted_letter}
+use Rattle.layer_rules.specs.LayerRules.{counted_letter}
 use Rattle.ann_reader.specs.LineFaults.{counted_byte}
 
 unsome : {X : Type 0} {x y : X} → Some x ≡ Some y → x ≡ y

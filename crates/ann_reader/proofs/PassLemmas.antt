@@ -1,7 +1,7 @@
 -- One line of the pass that seeks the first fault.
 use Rattle.std.proofs.Common.{◌≡◌, ℕ, List, [], ◌∷◌, ◌++◌, ◌∙◌, ap, refl, Option, Some, None, slice_index}
 use Rattle.std.specs.Option.{option_or, option_map}
-use Rattle.annotation_conf.specs.Configurations.{Configuration}
+use Rattle.conf_model.specs.Configurations.{Configuration}
 use Rattle.ann_reader.specs.declared.ann_fault.AnnWhat.{AnnWhat}
 use Rattle.ann_reader.specs.Lines.{Line}
 use Rattle.ann_reader.specs.LineFaults.{Fault, count_like, line_fault, first_line_fault}

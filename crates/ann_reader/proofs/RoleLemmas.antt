@@ -2,7 +2,7 @@
 use Rattle.std.proofs.Common.{◌≡◌, ℕ, ◌+◌, Bool, true, false, cond, List, [], ◌∷◌, zero, suc, drop, Option, Some, None, refl, sym, ◌∙◌, ap, add-one, bytes_eq, slice_get, option_map}
 use Rattle.std.specs.Option.{option_map_or}
 use Rattle.std.specs.List.{position_from}
-use Rattle.annotation_conf.specs.declared.role.Role.{Role}
+use Rattle.conf_model.specs.declared.role.Role.{Role}
 
 -- the search goes on behind a place
 position_step : {K : Type 0} (test : K → Bool) (i k : ℕ) (xs : List K)

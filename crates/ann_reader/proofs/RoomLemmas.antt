@@ -13,7 +13,7 @@ use Rattle.std.proofs.lemmas.Map.Entries.{length-keys_of}
 use Rattle.mark_base.specs.declared.ann_id.AnnId.{AnnId}
 use Rattle.mark_base.specs.declared.ann_id.Kind.{Kind}
 use Rattle.mark_base.specs.declared.ann_id.Kind.TheVariants as letter
-use Rattle.annotation_conf.specs.Configurations.{Configuration}
+use Rattle.conf_model.specs.Configurations.{Configuration}
 use Rattle.layer_model.specs.declared.mark.Mark.{Mark}
 use Rattle.layer_model.specs.declared.mark.Mark.TheVariants as marked
 use Rattle.layer_model.specs.declared.flaw.FlawPlace.TheVariants as at
@@ -24,9 +24,9 @@ use Rattle.layer_model.specs.Layers.{IsLayer, mark_at, mark_of}
 use Rattle.layer_model.specs.Numbers.{NumbersFit}
 use Rattle.mark_base.specs.ReadIds.{id_at}
 use Rattle.layer_model.specs.LayerIds.{id_place}
-use Rattle.layer_core.specs.LayerRules.{counted_letter, counted_with, is_id, layer_full}
-use Rattle.layer_core.specs.WellFormed.{IsWellFormed}
-use Rattle.layer_core.proofs.PlaceLemmas.{entries_found}
+use Rattle.layer_rules.specs.LayerRules.{counted_letter, counted_with, is_id, layer_full}
+use Rattle.layer_rules.specs.WellFormed.{IsWellFormed}
+use Rattle.layer_rules.proofs.PlaceLemmas.{entries_found}
 use Rattle.ann_reader.specs.Lines.{Line}
 use Rattle.mark_base.specs.AnnIds.{kind_read}
 use Rattle.ann_reader.specs.LineFaults.{count_like, one_too_many}

@@ -9,8 +9,8 @@ use Rattle.mark_base.specs.declared.table_places.TypeId.{TypeId}
 use Rattle.mark_base.specs.declared.arguments.Arg.{Arg}
 use Rattle.mark_base.specs.declared.fragments.Frag.{Frag}
 use Rattle.mark_base.specs.Names.{name_fault}
-use Rattle.annotation_conf.specs.Configurations.{Configuration}
-use Rattle.annotation_conf.specs.Lookups.{is_equivalence, values_of}
+use Rattle.conf_model.specs.Configurations.{Configuration}
+use Rattle.conf_model.specs.Lookups.{is_equivalence, values_of}
 use Rattle.layer_model.specs.declared.class.Class.{Class}
 use Rattle.layer_model.specs.declared.event.Event.{Event}
 use Rattle.layer_model.specs.declared.mark.Mark.{Mark}
@@ -22,11 +22,11 @@ use Rattle.layer_model.specs.Annotations.{Annotations}
 use Rattle.layer_model.specs.Layers.{mark_at}
 use Rattle.layer_model.specs.Coherent.{IsCoherent}
 use Rattle.layer_core.specs.CommandRules.{value_refused}
-use Rattle.layer_core.specs.FlawPlaces.{by_place}
-use Rattle.layer_core.specs.MarkRules.{is_barred_type, not_for_use, class_not_for_use, is_bad_value, unknown_value}
-use Rattle.layer_core.specs.LayerRules.{bad_text}
-use Rattle.layer_core.specs.BadTexts.{is_bad_text, is_bad_store, is_bad_entry}
-use Rattle.layer_core.specs.WellFormed.{IsWellFormed, Never, no_class}
+use Rattle.layer_rules.specs.FlawPlaces.{by_place}
+use Rattle.layer_rules.specs.MarkRules.{is_barred_type, not_for_use, class_not_for_use, is_bad_value, unknown_value}
+use Rattle.layer_rules.specs.LayerRules.{bad_text}
+use Rattle.layer_rules.specs.BadTexts.{is_bad_text, is_bad_store, is_bad_entry}
+use Rattle.layer_rules.specs.WellFormed.{IsWellFormed, Never, no_class}
 use Rattle.ann_reader.specs.Roles.{role_read}
 use Rattle.ann_reader.specs.NamesRead.{value_read}
 use Rattle.mark_base.specs.ReadIds.{id_read}

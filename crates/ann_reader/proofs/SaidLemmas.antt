@@ -8,12 +8,12 @@ use Rattle.std.specs.Ordering.{nat_cmp}
 use Rattle.mark_base.specs.declared.ann_id.AnnId.{AnnId}
 use Rattle.mark_base.specs.declared.ann_id.Kind.{Kind}
 use Rattle.mark_base.specs.declared.ann_id.Kind.TheVariants as letter
-use Rattle.annotation_conf.specs.Configurations.{Configuration}
+use Rattle.conf_model.specs.Configurations.{Configuration}
 use Rattle.layer_model.specs.declared.mark.Mark.{Mark}
 use Rattle.layer_model.specs.Annotations.{Annotations, no_marks}
 use Rattle.layer_model.specs.Classes.{joined, rank}
 use Rattle.layer_model.specs.Layers.{has, has_number, is_of_kind, mark_at, mark_of, with_mark}
-use Rattle.layer_core.specs.LayerRules.{is_id}
+use Rattle.layer_rules.specs.LayerRules.{is_id}
 use Rattle.ann_reader.specs.Lines.{Line}
 use Rattle.ann_reader.specs.LineForms.{form_of}
 use Rattle.ann_reader.specs.References.{own_id}

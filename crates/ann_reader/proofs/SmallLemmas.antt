@@ -2,7 +2,7 @@
 use Rattle.std.proofs.Common.{◌≡◌, ℕ, ◌≤◌, ◌⊎◌, inl, inr, true, List, [], ◌∷◌, sym, ◌∙◌, subst}
 use Rattle.std.specs.List.{fold}
 use Rattle.mark_base.specs.declared.ann_id.Kind.{Kind}
-use Rattle.annotation_conf.specs.Configurations.{Configuration}
+use Rattle.conf_model.specs.Configurations.{Configuration}
 use Rattle.layer_model.specs.Annotations.{Annotations, no_marks}
 use Rattle.layer_model.specs.Layers.{has_number}
 use Rattle.ann_reader.specs.Lines.{Line}

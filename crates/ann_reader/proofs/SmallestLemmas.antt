@@ -5,7 +5,7 @@ use Rattle.std.proofs.lemmas.Bool.{or_cases, and_parts, and_from, eqb-true, fals
 use Rattle.std.proofs.lemmas.List.Elements.{All-contains_itself, recursion_from_All}
 use Rattle.std.proofs.lemmas.List.Folds.{list_any-append}
 use Rattle.mark_base.specs.declared.ann_id.AnnId.{AnnId}
-use Rattle.annotation_conf.specs.Configurations.{Configuration}
+use Rattle.conf_model.specs.Configurations.{Configuration}
 use Rattle.layer_model.specs.declared.class.Class.{Class}
 use Rattle.layer_model.specs.Annotations.{Annotations}
 use Rattle.layer_model.specs.Classes.{rank, has_rank, is_among, ascending, shares, sharing, apart, joined_class}

@@ -8,7 +8,7 @@ use Rattle.mark_base.specs.declared.ann_id.AnnId.{AnnId}
 use Rattle.layer_model.specs.declared.rule.Rule.TheVariants.{NoSuch, WrongKind}
 use Rattle.layer_model.specs.Annotations.{Annotations}
 use Rattle.layer_model.specs.Layers.{has}
-use Rattle.layer_core.specs.MarkRules.{Wanted}
+use Rattle.layer_rules.specs.MarkRules.{Wanted}
 use Rattle.ann_reader.specs.Lines.{Line}
 use Rattle.mark_base.specs.ReadIds.{id_read}
 use Rattle.ann_reader.specs.References.{Reference, may_stand, has_no_letter, is_misspelt}

@@ -7,7 +7,7 @@ use Rattle.std.proofs.lemmas.Bool.{and_parts, and_from, false≢true, le-leb, lt
 use Rattle.mark_base.specs.declared.ann_id.AnnId.{AnnId}
 use Rattle.mark_base.specs.declared.fragments.Frag.{Frag}
 use Rattle.char_documents.specs.Texts.{lies_in, all_lie_in, reference_text}
-use Rattle.annotation_conf.specs.Configurations.{Configuration}
+use Rattle.conf_model.specs.Configurations.{Configuration}
 use Rattle.overlap_rules.specs.Overlaps.{are_ascending, last_end}
 use Rattle.layer_model.specs.declared.mark.Mark.TheVariants as marked
 use Rattle.layer_model.specs.declared.span.Span.{Span}
@@ -16,9 +16,9 @@ use Rattle.layer_model.specs.declared.rule.Rule.{Rule}
 use Rattle.layer_model.specs.declared.rule.Rule.TheVariants.{BadFragments, OutOfText}
 use Rattle.layer_model.specs.Annotations.{Annotations}
 use Rattle.layer_model.specs.Layers.{mark_at}
-use Rattle.layer_core.specs.MarkRules.{where_so, bad_fragments, out_of_text}
-use Rattle.layer_core.specs.BadTexts.{are_fragments}
-use Rattle.layer_core.specs.WellFormed.{IsWellFormed}
+use Rattle.layer_rules.specs.MarkRules.{where_so, bad_fragments, out_of_text}
+use Rattle.layer_rules.specs.BadTexts.{are_fragments}
+use Rattle.layer_rules.specs.WellFormed.{IsWellFormed}
 use Rattle.ann_reader.specs.NamesRead.{type_read}
 use Rattle.ann_reader.specs.LineForms.{TextForm}
 use Rattle.ann_reader.specs.LineMeanings.{mark_of, span_by}

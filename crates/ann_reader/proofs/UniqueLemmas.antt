@@ -10,13 +10,13 @@ use Rattle.std.proofs.lemmas.Bool.{or_cases, false≢true, eqb-true, cases_Bool}
 use Rattle.mark_base.specs.declared.ann_id.AnnId.{AnnId}
 use Rattle.mark_base.specs.declared.ann_id.Kind.{Kind}
 use Rattle.mark_base.specs.declared.ann_id.Kind.TheVariants as letter
-use Rattle.annotation_conf.specs.Configurations.{Configuration}
+use Rattle.conf_model.specs.Configurations.{Configuration}
 use Rattle.layer_model.specs.declared.mark.Mark.{Mark}
 use Rattle.layer_model.specs.declared.mark.Mark.TheVariants as marked
 use Rattle.layer_model.specs.Annotations.{Annotations}
 use Rattle.layer_model.specs.Classes.{letter_place, rank}
 use Rattle.layer_model.specs.Layers.{IsLayer, has, has_number, mark_of}
-use Rattle.layer_core.specs.LayerRules.{is_id}
+use Rattle.layer_rules.specs.LayerRules.{is_id}
 use Rattle.ann_reader.specs.Lines.{Line, lines_of}
 use Rattle.ann_reader.specs.LineForms.{Form, BadForm, TextForm, EventForm, RelationForm, AttributeForm, ClassForm, NormalForm, NoteForm, form_of}
 use Rattle.ann_reader.specs.References.{own_id}

@@ -5,7 +5,7 @@ use Rattle.std.specs.List.{list_any, fold, common_prefix_len}
 use Rattle.std.specs.Str.Lossy.{utf8_valid_len}
 use Rattle.mark_base.specs.declared.ann_id.AnnId.{AnnId}
 use Rattle.char_documents.specs.Texts.{all_lie_in, reference_text}
-use Rattle.annotation_conf.specs.Configurations.{Configuration}
+use Rattle.conf_model.specs.Configurations.{Configuration}
 use Rattle.layer_model.specs.declared.class.Class.{Class}
 use Rattle.layer_model.specs.declared.flaw.Flaw.{Flaw}
 use Rattle.layer_model.specs.declared.flaw.FlawPlace.{FlawPlace}
@@ -14,7 +14,7 @@ use Rattle.layer_model.specs.declared.mark.Mark.{Mark}
 use Rattle.layer_model.specs.Annotations.{Annotations, no_marks}
 use Rattle.layer_model.specs.Classes.{is_among, joined}
 use Rattle.layer_model.specs.Layers.{has, with_mark, with_classes}
-use Rattle.layer_core.specs.WellFormed.{least_flaw}
+use Rattle.layer_rules.specs.WellFormed.{least_flaw}
 use Rattle.ann_reader.specs.declared.ann_fault.AnnWhat.TheVariants.{NotUtf8, WrongText, Broken}
 use Rattle.ann_reader.specs.Lines.{Line, lines_of}
 use Rattle.ann_reader.specs.LineForms.{Form, TextForm, form_of}

@@ -5,15 +5,15 @@ use Rattle.std.specs.List.{list_any, filter_map, fold, AllByRecursion}
 use Rattle.mark_base.specs.declared.ann_id.AnnId.{AnnId}
 use Rattle.mark_base.specs.declared.ann_id.Kind.{Kind}
 use Rattle.char_documents.specs.Texts.{reference_text}
-use Rattle.annotation_conf.specs.Configurations.{Configuration}
+use Rattle.conf_model.specs.Configurations.{Configuration}
 use Rattle.layer_model.specs.declared.class.Class.{Class}
 use Rattle.layer_model.specs.declared.mark.Mark.{Mark}
 use Rattle.layer_model.specs.Annotations.{Annotations}
 use Rattle.layer_model.specs.Classes.{joined}
 use Rattle.layer_model.specs.Coherent.{is_span_letter}
 use Rattle.layer_model.specs.Layers.{has, has_number, mark_at}
-use Rattle.layer_core.specs.LayerRules.{is_id}
-use Rattle.layer_core.specs.WellFormed.{IsWellFormed}
+use Rattle.layer_rules.specs.LayerRules.{is_id}
+use Rattle.layer_rules.specs.WellFormed.{IsWellFormed}
 use Rattle.ann_reader.specs.Lines.{Line, lines_of}
 use Rattle.mark_base.specs.ReadIds.{id_read}
 use Rattle.ann_reader.specs.LineForms.{Form, BadForm, TextForm, EventForm, RelationForm, AttributeForm, ClassForm, NormalForm, NoteForm, form_of}

@@ -4,15 +4,15 @@ use Rattle.std.specs.Option.{option_or, option_map_or}
 use Rattle.std.specs.List.{list_any, filter_map}
 use Rattle.mark_base.specs.declared.ann_id.AnnId.{AnnId}
 use Rattle.mark_base.specs.Names.{name_fault}
-use Rattle.annotation_conf.specs.Configurations.{Configuration}
-use Rattle.annotation_conf.specs.Lookups.{is_equivalence, values_of}
+use Rattle.conf_model.specs.Configurations.{Configuration}
+use Rattle.conf_model.specs.Lookups.{is_equivalence, values_of}
 use Rattle.layer_model.specs.declared.rule.Rule.{Rule}
 use Rattle.layer_model.specs.declared.rule.Rule.TheVariants.{UnknownType, NotForUse, NoSuch, UnknownRole, UnknownValue, BadText, LayerFull}
 use Rattle.layer_core.specs.CommandRules.{value_refused}
-use Rattle.layer_core.specs.LayerRules.{counted_letter, is_id}
-use Rattle.layer_core.specs.MarkRules.{where_so, is_barred_type, Wanted, first_unwanted}
-use Rattle.layer_core.specs.BadTexts.{is_bad_text, is_bad_store, is_bad_entry}
-use Rattle.layer_core.specs.LowestFlaw.{first_of}
+use Rattle.layer_rules.specs.LayerRules.{counted_letter, is_id}
+use Rattle.layer_rules.specs.MarkRules.{where_so, is_barred_type, Wanted, first_unwanted}
+use Rattle.layer_rules.specs.BadTexts.{is_bad_text, is_bad_store, is_bad_entry}
+use Rattle.layer_rules.specs.LowestFlaw.{first_of}
 use Rattle.ann_reader.specs.declared.ann_fault.AnnWhat.{AnnWhat}
 use Rattle.ann_reader.specs.declared.ann_fault.AnnWhat.TheVariants.{BadLine, BadId, IdTwice, Broken}
 use Rattle.ann_reader.specs.Roles.{role_read}

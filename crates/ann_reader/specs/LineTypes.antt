@@ -1,7 +1,7 @@
 -- The types that a line names, each in the table that the line needs (private calls only).
 use Rattle.std.specs.Prelude.{◌≡◌, ℕ, Option, None, option_map}
 use Rattle.mark_base.specs.declared.table_places.TypeId.{TypeId}
-use Rattle.annotation_conf.specs.Configurations.{Configuration}
+use Rattle.conf_model.specs.Configurations.{Configuration}
 use Rattle.ann_reader.specs.declared.declared_names.LineTypes.{LineTypes}
 use Rattle.ann_reader.specs.LineForms.{Form, TextForm, EventForm, RelationForm, AttributeForm, ClassForm}
 use Rattle.ann_reader.specs.NamesRead.{type_read, event_read, relation_read, attribute_read}

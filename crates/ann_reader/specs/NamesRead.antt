@@ -4,9 +4,9 @@ use Rattle.std.specs.Option.{option_map_or}
 use Rattle.mark_base.specs.declared.table_places.TypeId.{TypeId}
 use Rattle.mark_base.specs.Names.{name_fault}
 use Rattle.type_hierarchy.specs.TypeTrees.{type_named}
-use Rattle.annotation_conf.specs.Configurations.{Configuration}
-use Rattle.annotation_conf.specs.Lookups.{relation_named, attribute_named, value_named}
-use Rattle.layer_core.specs.Targets.{is_event_type}
+use Rattle.conf_model.specs.Configurations.{Configuration}
+use Rattle.conf_model.specs.Lookups.{relation_named, attribute_named, value_named}
+use Rattle.layer_rules.specs.Targets.{is_event_type}
 use Rattle.layer_core.specs.CommandRules.{Valued, Undeclared, Declared}
 
 -- what a table has under a word that is a name

@@ -1,6 +1,6 @@
 -- What the reader of an .ann file tells.
 use Rattle.std.specs.Prelude.{◌≡◌, ℕ, List, Option, Some, ⊤}
-use Rattle.annotation_conf.specs.Configurations.{Configuration}
+use Rattle.conf_model.specs.Configurations.{Configuration}
 use Rattle.ann_reader.specs.declared.ann_fault.AnnFault.{AnnFault}
 use Rattle.ann_reader.specs.declared.ann_fault.AnnFault.TheVariants.{At, Memory}
 use Rattle.ann_reader.specs.LineFaults.{Fault}

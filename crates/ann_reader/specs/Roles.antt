@@ -2,8 +2,8 @@
 use Rattle.std.specs.Prelude.{ℕ, ◌-◌, ◌&&◌, List, [], ◌∷◌, length, take, drop, nat_lt, Option, None, if◌then◌else◌}
 use Rattle.std.specs.Option.{option_or}
 use Rattle.mark_base.specs.AnnIds.{is_canonical}
-use Rattle.annotation_conf.specs.Configurations.{Configuration}
-use Rattle.annotation_conf.specs.Lookups.{role_named}
+use Rattle.conf_model.specs.Configurations.{Configuration}
+use Rattle.conf_model.specs.Lookups.{role_named}
 
 -- the role that the front of a word names, where the so many bytes behind it are a number without a leading zero
 abbrev pub role_before : Configuration → ℕ → List ℕ → ℕ → Option ℕ

@@ -1,12 +1,12 @@
 //! What the words of a line name in a configuration.
 ghost use Rattle.std.specs.Prelude.{◌≡◌, IfOk, Some, None, option_map};
 ghost use Rattle.ann_reader.specs.LineTypes.{HasTypes};
-ghost use Rattle.annotation_conf.specs.Lookups.{value_named};
+ghost use Rattle.conf_model.specs.Lookups.{value_named};
 ghost use Rattle.ann_reader.specs.NamesRead.{by_name, type_read, where_event, event_read, relation_read, attribute_read, value_read};
 ghost use Rattle.ann_reader.specs.FormShows.{seen_form, seen_text, seen_value};
 
 use crate::line_form::Form;
-use annotation_conf::Conf;
+use conf_model::Conf;
 use mark_base::{AttrId, Memory, Name, NameFault, RelId, TypeId};
 use std::alloc::Global;
 

@@ -1,7 +1,7 @@
 //! Laws of .ann files. Each function does nothing but name the laws that it rests on; its contract is the law.
 ghost use Rattle.std.specs.Prelude.{◌≡◌, ◌≤◌, ℕ, true, List, length, None, IsUtf8};
 ghost use Rattle.std.specs.List.{AllByRecursion, list_any};
-ghost use Rattle.annotation_conf.specs.Configurations.{Configuration};
+ghost use Rattle.conf_model.specs.Configurations.{Configuration};
 ghost use Rattle.layer_model.specs.Annotations.{Annotations};
 ghost use Rattle.layer_model.specs.Layers.{IsLayer};
 ghost use Rattle.ann_reader.specs.Lines.{lines_of};
@@ -9,7 +9,7 @@ ghost use Rattle.ann_reader.specs.AnnFaults.{ann_fault, layer_of, lines_fault};
 ghost use Rattle.ann_reader.specs.AnnFiles.{IsAnn, said_in};
 ghost use Rattle.ann_reader.specs.Smallest.{IsLinkedClass, holds_line};
 
-use layer_core::well_formed_layers_cohere;
+use layer_rules::well_formed_layers_cohere;
 
 /// A file without a fault is an .ann file of the layer that its lines say.
 pub fn files_without_fault()

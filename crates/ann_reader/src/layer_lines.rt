@@ -9,7 +9,7 @@ use crate::declared_names::LineTypes;
 use crate::line_form::Form;
 use crate::line_meaning::{Said, mark_of, said_of};
 use crate::references::own_id;
-use annotation_conf::Conf;
+use conf_model::Conf;
 use layer_model::{Layer, Mark};
 use mark_base::{AnnId, Kind, Memory};
 use std::alloc::Global;

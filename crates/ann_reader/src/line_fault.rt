@@ -2,10 +2,10 @@
 ghost use Rattle.std.specs.Prelude.{◌≡◌, IfOk, IfSome, is_none, is_some, length, map};
 ghost use Rattle.std.specs.List.{list_any};
 ghost use Rattle.mark_base.specs.Names.{name_fault};
-ghost use Rattle.annotation_conf.specs.Lookups.{values_of};
+ghost use Rattle.conf_model.specs.Lookups.{values_of};
 ghost use Rattle.layer_core.specs.CommandRules.{value_refused};
-ghost use Rattle.layer_core.specs.LayerRules.{counted_letter};
-ghost use Rattle.layer_core.specs.MarkRules.{is_barred_type};
+ghost use Rattle.layer_rules.specs.LayerRules.{counted_letter};
+ghost use Rattle.layer_rules.specs.MarkRules.{is_barred_type};
 ghost use Rattle.std.specs.Option.{option_map_or};
 ghost use Rattle.std.specs.Prelude.{false};
 ghost use Rattle.ann_reader.specs.Roles.{role_read};
@@ -27,9 +27,9 @@ use crate::references::{
 };
 use crate::roles::role_read;
 use crate::word::first_byte;
-use annotation_conf::Conf;
-use layer_core::{is_bad_entry, is_bad_store, is_bad_text};
+use conf_model::Conf;
 use layer_model::Rule;
+use layer_rules::{is_bad_entry, is_bad_store, is_bad_text};
 use mark_base::{AnnId, AttrId, Kind, Memory, Name, NameFault, TypeId};
 use std::alloc::Global;
 

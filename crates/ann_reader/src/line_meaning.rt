@@ -10,7 +10,7 @@ ghost use Rattle.ann_reader.specs.Words.{all_of};
 use crate::declared_names::{LineTypes, Value, value_read};
 use crate::line_form::{Form, Pair};
 use crate::roles::role_read;
-use annotation_conf::Conf;
+use conf_model::Conf;
 use layer_model::{Attribute, Event, Mark, Normal, Note, Relation, Span};
 use mark_base::{
     AnnId, Arg, ArgList, AttrId, Frag, FragList, IdList, Memory, Name, NameFault, RelId, Text,

@@ -1,10 +1,10 @@
 //! The roles of an event, as the words of its line name them.
 ghost use Rattle.std.specs.Prelude.{◌≡◌, ◌<◌, length, bytes_eq};
 ghost use Rattle.std.specs.List.{position_from};
-ghost use Rattle.annotation_conf.specs.Lookups.{role_named};
+ghost use Rattle.conf_model.specs.Lookups.{role_named};
 ghost use Rattle.ann_reader.specs.Roles.{role_before, role_before_number, role_read, digit_counts};
 
-use annotation_conf::Conf;
+use conf_model::Conf;
 use mark_base::{TypeId, is_canonical};
 
 /// The role of this name.

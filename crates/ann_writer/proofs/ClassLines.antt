@@ -10,14 +10,14 @@ use Rattle.std.specs.List.{AllByRecursion, list_any, fold}
 use Rattle.std.specs.List.Sorted.{IsStrictlySortedBy}
 use Rattle.mark_base.specs.declared.ann_id.AnnId.{AnnId}
 use Rattle.mark_base.specs.declared.table_places.RelId.{RelId}
-use Rattle.annotation_conf.specs.Configurations.{Configuration}
-use Rattle.annotation_conf.specs.ConfText.{relation_name_at}
+use Rattle.conf_model.specs.Configurations.{Configuration}
+use Rattle.conf_model.specs.ConfText.{relation_name_at}
 use Rattle.layer_model.specs.declared.class.Class.{Class}
 use Rattle.layer_model.specs.declared.flaw.FlawPlace.TheVariants as at
 use Rattle.layer_model.specs.Annotations.{Annotations}
 use Rattle.layer_model.specs.Classes.{rank, has_rank, is_among, with_id, ascending, Ascends, least_of, comes_before, insert_class, shares, sharing, apart, joined, IsClass, Precedes, AreClasses}
 use Rattle.layer_model.proofs.ClassOrder.{insert_class-last}
-use Rattle.layer_core.specs.MarkRules.{where_so, unknown_class}
+use Rattle.layer_rules.specs.MarkRules.{where_so, unknown_class}
 use Rattle.layer_model.specs.declared.rule.Rule.{Rule}
 use Rattle.ann_reader.specs.Lines.{is_blank}
 use Rattle.mark_base.specs.ReadIds.{id_read}

@@ -12,13 +12,13 @@ use Rattle.type_hierarchy.specs.TypeTrees.{is_named, type_named}
 use Rattle.type_hierarchy.specs.TypeFaults.{fault_of, name_twice, bad_parent, are_too_many, is_twice}
 use Rattle.type_hierarchy.specs.declared.types_fault.TypesFault.{TypesFault}
 use Rattle.type_hierarchy.specs.declared.types_fault.TypesFault.TheVariants.{NameTwice, BadParent, TooMany}
-use Rattle.annotation_conf.specs.Configurations.{Configuration}
-use Rattle.annotation_conf.specs.declared.role.Role.{Role}
-use Rattle.annotation_conf.specs.declared.relation_type.RelationType.{RelationType}
-use Rattle.annotation_conf.specs.declared.attribute_type.AttributeType.{AttributeType}
-use Rattle.annotation_conf.specs.ConfFaults.{is_among, stands_twice}
-use Rattle.annotation_conf.specs.Lookups.{relation_named, attribute_named, roles_of}
-use Rattle.annotation_conf.specs.Sound.{IsSound, IsName, IsDeclaredName, AreRoles, IsRelation, IsAttribute}
+use Rattle.conf_model.specs.Configurations.{Configuration}
+use Rattle.conf_model.specs.declared.role.Role.{Role}
+use Rattle.conf_model.specs.declared.relation_type.RelationType.{RelationType}
+use Rattle.conf_model.specs.declared.attribute_type.AttributeType.{AttributeType}
+use Rattle.conf_model.specs.ConfFaults.{is_among, stands_twice}
+use Rattle.conf_model.specs.Lookups.{relation_named, attribute_named, roles_of}
+use Rattle.conf_model.specs.Sound.{IsSound, IsName, IsDeclaredName, AreRoles, IsRelation, IsAttribute}
 use Rattle.annotation_conf.proofs.Written.{IsWord}
 use Rattle.annotation_conf.proofs.WrittenNames.{declared_word, no_fault, none_at}
 

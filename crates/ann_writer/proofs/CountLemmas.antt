@@ -4,8 +4,8 @@ use Rattle.std.proofs.lemmas.List.{take_more, get_or-set_same, get_or-set_other}
 use Rattle.std.proofs.lemmas.List.Sums.{count_by_more_yes, count_by_more_no}
 use Rattle.std.proofs.lemmas.Bool.{eqb-true, eq-eqb}
 use Rattle.mark_base.specs.declared.arguments.Arg.{Arg}
-use Rattle.annotation_conf.specs.Configurations.{Configuration}
-use Rattle.layer_core.specs.MarkRules.{filled}
+use Rattle.conf_model.specs.Configurations.{Configuration}
+use Rattle.layer_rules.specs.MarkRules.{filled}
 use Rattle.ann_writer.specs.RoleCounts.{AreCounts}
 use Rattle.ann_writer.specs.Words.{argument_words, id_word, pair_word, role_spelling}
 

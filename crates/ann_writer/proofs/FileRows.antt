@@ -13,14 +13,14 @@ use Rattle.std.specs.FinMap as finite
 use Rattle.std.specs.FinMap.Entries.{is_sorted, below_all}
 use Rattle.mark_base.specs.declared.ann_id.AnnId.{AnnId}
 use Rattle.mark_base.specs.declared.ann_id.Kind.{Kind}
-use Rattle.annotation_conf.specs.Configurations.{Configuration}
+use Rattle.conf_model.specs.Configurations.{Configuration}
 use Rattle.annotation_conf.proofs.WrittenLists.{split_at}
 use Rattle.layer_model.specs.Annotations.{Annotations}
 use Rattle.layer_model.specs.Classes.{rank, letter_place}
 use Rattle.layer_model.specs.Numbers.{NumbersFit}
 use Rattle.mark_base.specs.ReadIds.{id_at, id_read}
-use Rattle.layer_core.specs.LayerRules.{is_id}
-use Rattle.layer_core.proofs.PlaceLemmas.{along, is_less, left, right}
+use Rattle.layer_rules.specs.LayerRules.{is_id}
+use Rattle.layer_rules.proofs.PlaceLemmas.{along, is_less, left, right}
 use Rattle.ann_reader.specs.Lines as file
 use Rattle.ann_reader.specs.Lines.{Line, is_blank, lines_from}
 use Rattle.ann_reader.specs.LineForms.{form_of, head_field}

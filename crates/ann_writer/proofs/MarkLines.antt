@@ -18,10 +18,10 @@ use Rattle.mark_base.specs.declared.table_places.TypeId.{TypeId}
 use Rattle.mark_base.specs.declared.name.NameFault.{NameFault}
 use Rattle.mark_base.specs.AnnIds.{letter_of, spelling_of}
 use Rattle.char_documents.specs.Texts.{all_lie_in, lies_in, reference_text}
-use Rattle.annotation_conf.specs.Configurations.{Configuration}
-use Rattle.annotation_conf.specs.ConfText.{type_name_at, relation_name_at}
-use Rattle.annotation_conf.specs.Lookups.{values_of}
-use Rattle.annotation_conf.specs.Sound.{IsSound}
+use Rattle.conf_model.specs.Configurations.{Configuration}
+use Rattle.conf_model.specs.ConfText.{type_name_at, relation_name_at}
+use Rattle.conf_model.specs.Lookups.{values_of}
+use Rattle.conf_model.specs.Sound.{IsSound}
 use Rattle.annotation_conf.proofs.Written.{IsWord}
 use Rattle.annotation_conf.proofs.WrittenLists.{is_other, none-append, none_less}
 use Rattle.layer_model.specs.declared.mark.Mark.{Mark}
@@ -40,14 +40,14 @@ use Rattle.layer_model.specs.Coherent.{is_span_letter}
 use Rattle.layer_model.specs.Layers.{mark_of as marked_of}
 use Rattle.layer_model.specs.Numbers.{NumbersFit}
 use Rattle.mark_base.specs.ReadIds.{id_at, id_read}
-use Rattle.layer_core.specs.FlawPlaces.{by_place}
-use Rattle.layer_core.specs.MarkRules.{where_so, unknown_type, unknown_class, bad_fragments, unknown_value, is_bad_value}
-use Rattle.layer_core.specs.LayerRules.{bad_text}
-use Rattle.layer_core.specs.BadTexts.{are_fragments, is_bad_text, is_bad_store, is_bad_entry}
+use Rattle.layer_rules.specs.FlawPlaces.{by_place}
+use Rattle.layer_rules.specs.MarkRules.{where_so, unknown_type, unknown_class, bad_fragments, unknown_value, is_bad_value}
+use Rattle.layer_rules.specs.LayerRules.{bad_text}
+use Rattle.layer_rules.specs.BadTexts.{are_fragments, is_bad_text, is_bad_store, is_bad_entry}
 use Rattle.layer_core.specs.CommandRules.{Declared}
-use Rattle.layer_core.specs.Targets.{is_event_type}
-use Rattle.layer_core.specs.WellFormed.{IsWellFormed, Never, no_class}
-use Rattle.layer_core.proofs.PlaceLemmas.{at_entry}
+use Rattle.layer_rules.specs.Targets.{is_event_type}
+use Rattle.layer_rules.specs.WellFormed.{IsWellFormed, Never, no_class}
+use Rattle.layer_rules.proofs.PlaceLemmas.{at_entry}
 use Rattle.ann_reader.specs.Lines.{is_blank, is_blank_byte}
 use Rattle.ann_reader.specs.LineForms.{Form, TextForm, EventForm, RelationForm, AttributeForm, NormalForm, NoteForm, form_of, head_field}
 use Rattle.ann_reader.specs.LineForms as forms

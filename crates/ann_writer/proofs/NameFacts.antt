@@ -6,17 +6,17 @@ use Rattle.std.specs.List.{position_from}
 use Rattle.mark_base.specs.declared.table_places.TypeId.{TypeId}
 use Rattle.type_hierarchy.specs.declared.type_row.TypeRow.{TypeRow}
 use Rattle.type_hierarchy.specs.TypeTrees.{type_named}
-use Rattle.annotation_conf.specs.Configurations.{Configuration}
-use Rattle.annotation_conf.specs.declared.role.Role.{Role}
-use Rattle.annotation_conf.specs.declared.relation_type.RelationType.{RelationType}
-use Rattle.annotation_conf.specs.declared.attribute_type.AttributeType.{AttributeType}
-use Rattle.annotation_conf.specs.ConfText.{type_name_at, relation_name_at}
-use Rattle.annotation_conf.specs.Lookups.{relation_named, relation_role, attribute_named, values_of, value_named, roles_of, role_named}
-use Rattle.annotation_conf.specs.Sound.{IsSound, IsName, IsRole, AreRoles, IsRelation, IsAttribute}
+use Rattle.conf_model.specs.Configurations.{Configuration}
+use Rattle.conf_model.specs.declared.role.Role.{Role}
+use Rattle.conf_model.specs.declared.relation_type.RelationType.{RelationType}
+use Rattle.conf_model.specs.declared.attribute_type.AttributeType.{AttributeType}
+use Rattle.conf_model.specs.ConfText.{type_name_at, relation_name_at}
+use Rattle.conf_model.specs.Lookups.{relation_named, relation_role, attribute_named, values_of, value_named, roles_of, role_named}
+use Rattle.conf_model.specs.Sound.{IsSound, IsName, IsRole, AreRoles, IsRelation, IsAttribute}
 use Rattle.annotation_conf.proofs.Written.{IsWord}
-use Rattle.annotation_conf.specs.ConfFaults.{stands_twice}
+use Rattle.conf_model.specs.ConfFaults.{stands_twice}
 use Rattle.layer_core.specs.CommandRules.{Undeclared, Declared}
-use Rattle.layer_core.specs.Targets.{is_event_type}
+use Rattle.layer_rules.specs.Targets.{is_event_type}
 use Rattle.ann_reader.specs.NamesRead.{by_name, type_read, where_event, event_read, relation_read, attribute_read, value_read}
 use Rattle.ann_reader.specs.LineMeanings.{is_role}
 use Rattle.ann_writer.specs.AnnOf.{relation_role_at, attribute_name_at, value_name_at}

@@ -8,13 +8,13 @@ use Rattle.std.proofs.lemmas.Bool.{ne_eqb}
 use Rattle.mark_base.specs.declared.arguments.Arg.{Arg}
 use Rattle.mark_base.specs.declared.table_places.TypeId.{TypeId}
 use Rattle.mark_base.specs.AnnIds.{is_canonical}
-use Rattle.annotation_conf.specs.Configurations.{Configuration}
-use Rattle.annotation_conf.specs.declared.role.Role.{Role}
-use Rattle.annotation_conf.specs.Lookups.{roles_of, role_named}
-use Rattle.annotation_conf.specs.Sound.{IsSound, IsRole}
+use Rattle.conf_model.specs.Configurations.{Configuration}
+use Rattle.conf_model.specs.declared.role.Role.{Role}
+use Rattle.conf_model.specs.Lookups.{roles_of, role_named}
+use Rattle.conf_model.specs.Sound.{IsSound, IsRole}
 use Rattle.annotation_conf.proofs.Written.{IsWord}
 use Rattle.annotation_conf.proofs.WrittenLists.{none-append}
-use Rattle.layer_core.specs.MarkRules.{filled}
+use Rattle.layer_rules.specs.MarkRules.{filled}
 use Rattle.ann_reader.specs.Roles.{role_read, role_before, role_before_number, digit_counts}
 use Rattle.ann_reader.specs.LineForms.{Pair, pairs_read}
 use Rattle.ann_reader.specs.LineMeanings.{arg_by, args_of}

@@ -12,8 +12,8 @@ use Rattle.mark_base.specs.declared.ann_id.Kind.{Kind}
 use Rattle.mark_base.specs.declared.ann_id.Kind.TheVariants as letter
 use Rattle.mark_base.specs.AnnIds.{spelling_of}
 use Rattle.char_documents.specs.Texts.{reference_text}
-use Rattle.annotation_conf.specs.Configurations.{Configuration}
-use Rattle.annotation_conf.specs.ConfText.{type_name_at, relation_name_at}
+use Rattle.conf_model.specs.Configurations.{Configuration}
+use Rattle.conf_model.specs.ConfText.{type_name_at, relation_name_at}
 use Rattle.annotation_conf.proofs.WrittenTexts.{each_append}
 use Rattle.layer_model.specs.declared.span.Span.{Span}
 use Rattle.layer_model.specs.declared.event.Event.{Event}
@@ -26,9 +26,9 @@ use Rattle.layer_model.specs.Annotations.{Annotations}
 use Rattle.layer_model.specs.Layers.{IsLayer, has_number}
 use Rattle.layer_model.specs.Numbers.{NumbersFit}
 use Rattle.mark_base.specs.ReadIds.{id_at}
-use Rattle.layer_core.specs.LayerRules.{is_id}
-use Rattle.layer_core.specs.WellFormed.{IsWellFormed}
-use Rattle.layer_core.proofs.PlaceLemmas.{entries_found}
+use Rattle.layer_rules.specs.LayerRules.{is_id}
+use Rattle.layer_rules.specs.WellFormed.{IsWellFormed}
+use Rattle.layer_rules.proofs.PlaceLemmas.{entries_found}
 use Rattle.ann_reader.specs.Lines as file
 use Rattle.ann_reader.specs.Lines.{Line}
 use Rattle.ann_reader.specs.LineForms.{form_of}

@@ -8,8 +8,8 @@ use Rattle.mark_base.specs.declared.ann_id.Kind.TheVariants as letter
 use Rattle.mark_base.specs.declared.arguments.Arg.{Arg}
 use Rattle.mark_base.specs.declared.fragments.Frag.{Frag}
 use Rattle.char_documents.specs.Texts.{all_lie_in}
-use Rattle.annotation_conf.specs.Configurations.{Configuration}
-use Rattle.annotation_conf.specs.Lookups.{roles_of}
+use Rattle.conf_model.specs.Configurations.{Configuration}
+use Rattle.conf_model.specs.Lookups.{roles_of}
 use Rattle.overlap_rules.specs.Overlaps.{are_ascending, last_end}
 use Rattle.layer_model.specs.declared.mark.Mark.TheVariants as marked
 use Rattle.layer_model.specs.declared.rule.Rule.{Rule}
@@ -18,10 +18,10 @@ use Rattle.layer_model.specs.declared.flaw.FlawPlace.TheVariants as at
 use Rattle.layer_model.specs.Annotations.{Annotations}
 use Rattle.layer_model.specs.Layers.{IsLayer}
 use Rattle.mark_base.specs.ReadIds.{id_at}
-use Rattle.layer_core.specs.MarkRules.{where_so, bad_fragments, out_of_text, unknown_role}
-use Rattle.layer_core.specs.BadTexts.{are_fragments}
-use Rattle.layer_core.specs.WellFormed.{IsWellFormed, no_class}
-use Rattle.layer_core.proofs.PlaceLemmas.{along, at_entry, entries_found}
+use Rattle.layer_rules.specs.MarkRules.{where_so, bad_fragments, out_of_text, unknown_role}
+use Rattle.layer_rules.specs.BadTexts.{are_fragments}
+use Rattle.layer_rules.specs.WellFormed.{IsWellFormed, no_class}
+use Rattle.layer_rules.proofs.PlaceLemmas.{along, at_entry, entries_found}
 use Rattle.ann_writer.specs.Writable.{IsWritable}
 
 -- ---- fragments within a text

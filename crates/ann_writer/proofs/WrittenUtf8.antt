@@ -15,13 +15,13 @@ use Rattle.mark_base.specs.declared.fragments.Frag.{Frag}
 use Rattle.mark_base.specs.AnnIds.{spelling_of}
 use Rattle.type_hierarchy.specs.declared.type_row.TypeRow.{TypeRow}
 use Rattle.char_documents.specs.Texts.{reference_text}
-use Rattle.annotation_conf.specs.Configurations.{Configuration}
-use Rattle.annotation_conf.specs.declared.role.Role.{Role}
-use Rattle.annotation_conf.specs.declared.relation_type.RelationType.{RelationType}
-use Rattle.annotation_conf.specs.declared.attribute_type.AttributeType.{AttributeType}
-use Rattle.annotation_conf.specs.ConfText.{type_name_at, relation_name_at}
-use Rattle.annotation_conf.specs.Lookups.{values_of, roles_of}
-use Rattle.annotation_conf.specs.Sound.{IsSound, IsName, IsDeclaredName, IsRole, AreRoles, IsRelation, IsAttribute}
+use Rattle.conf_model.specs.Configurations.{Configuration}
+use Rattle.conf_model.specs.declared.role.Role.{Role}
+use Rattle.conf_model.specs.declared.relation_type.RelationType.{RelationType}
+use Rattle.conf_model.specs.declared.attribute_type.AttributeType.{AttributeType}
+use Rattle.conf_model.specs.ConfText.{type_name_at, relation_name_at}
+use Rattle.conf_model.specs.Lookups.{values_of, roles_of}
+use Rattle.conf_model.specs.Sound.{IsSound, IsName, IsDeclaredName, IsRole, AreRoles, IsRelation, IsAttribute}
 use Rattle.layer_model.specs.declared.span.Span.{Span}
 use Rattle.layer_model.specs.declared.event.Event.{Event}
 use Rattle.layer_model.specs.declared.relation.Relation.{Relation}
@@ -30,8 +30,8 @@ use Rattle.layer_model.specs.declared.normal.Normal.{Normal}
 use Rattle.layer_model.specs.declared.note.Note.{Note}
 use Rattle.layer_model.specs.declared.class.Class.{Class}
 use Rattle.layer_model.specs.Annotations.{Annotations}
-use Rattle.layer_core.specs.MarkRules.{filled}
-use Rattle.layer_core.proofs.PlaceLemmas.{entries_found}
+use Rattle.layer_rules.specs.MarkRules.{filled}
+use Rattle.layer_rules.proofs.PlaceLemmas.{entries_found}
 use Rattle.ann_writer.specs.Words.{id_word, pair_word, frag_word, frags_word, reads_as, role_name_at, role_spelling, argument_words, words_behind, line_of, line_with_text}
 use Rattle.ann_writer.specs.AnnOf.{span_line, event_line, relation_role_at, relation_line, class_line, attribute_name_at, value_name_at, value_words, attribute_line, normal_line, note_line, lines_of, ann_of}
 use Rattle.ann_writer.specs.Writable.{NormalTexts, NoteTexts, IsOfProgram}

@@ -1,7 +1,7 @@
 -- How many arguments of each role stand before an argument (private calls only).
 use Rattle.std.specs.Prelude.{◌≡◌, ℕ, ◌<◌, List, length, slice_index}
 use Rattle.mark_base.specs.declared.arguments.Arg.{Arg}
-use Rattle.layer_core.specs.MarkRules.{filled}
+use Rattle.layer_rules.specs.MarkRules.{filled}
 
 -- the counts of the roles are those of these arguments
 abbrev pub AreCounts : List ℕ → List Arg → Type 0

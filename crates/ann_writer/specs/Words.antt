@@ -6,9 +6,9 @@ use Rattle.mark_base.specs.declared.ann_id.AnnId.{AnnId}
 use Rattle.mark_base.specs.declared.arguments.Arg.{Arg}
 use Rattle.mark_base.specs.declared.fragments.Frag.{Frag}
 use Rattle.mark_base.specs.AnnIds.{spelling_of}
-use Rattle.annotation_conf.specs.Configurations.{Configuration}
-use Rattle.annotation_conf.specs.Lookups.{role_name}
-use Rattle.layer_core.specs.MarkRules.{filled}
+use Rattle.conf_model.specs.Configurations.{Configuration}
+use Rattle.conf_model.specs.Lookups.{role_name}
+use Rattle.layer_rules.specs.MarkRules.{filled}
 use Rattle.ann_reader.specs.Roles.{role_read}
 
 -- an ID

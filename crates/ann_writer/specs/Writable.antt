@@ -5,9 +5,9 @@ use Rattle.std.specs.FinMap as finite
 use Rattle.mark_base.specs.declared.arguments.Arg.{Arg}
 use Rattle.mark_base.specs.Names.{name_fault}
 use Rattle.char_documents.specs.Texts.{all_lie_in}
-use Rattle.annotation_conf.specs.Configurations.{Configuration}
-use Rattle.annotation_conf.specs.Lookups.{roles_of}
-use Rattle.annotation_conf.specs.Sound.{IsSound}
+use Rattle.conf_model.specs.Configurations.{Configuration}
+use Rattle.conf_model.specs.Lookups.{roles_of}
+use Rattle.conf_model.specs.Sound.{IsSound}
 use Rattle.layer_model.specs.declared.span.Span.{Span}
 use Rattle.layer_model.specs.declared.event.Event.{Event}
 use Rattle.layer_model.specs.declared.normal.Normal.{Normal}

@@ -2,11 +2,11 @@
 ghost use Rattle.std.specs.Prelude.{◌≡◌, ◌++◌, ◌+◌, ◌<◌, ◌≤◌, ◌∷◌, [], length, slice_index, slice_set, vec_len, IfOk};
 ghost use Rattle.std.specs.List.{All};
 ghost use Rattle.mark_base.specs.declared.arguments.Arg.{Arg};
-ghost use Rattle.annotation_conf.specs.Lookups.{roles_of};
+ghost use Rattle.conf_model.specs.Lookups.{roles_of};
 ghost use Rattle.ann_writer.specs.Words.{argument_words, id_word, pair_word, role_spelling};
 
 use crate::words::{id_word, pair_word, role_spelling};
-use annotation_conf::Conf;
+use conf_model::Conf;
 use mark_base::{Arg, Memory, Text, TypeId};
 use std::alloc::Global;
 

@@ -1,8 +1,8 @@
 //! What holds of the lines of a layer.
 ghost use Rattle.std.specs.Prelude.{ℕ, List, length, IsUtf8};
-ghost use Rattle.annotation_conf.specs.Configurations.{Configuration};
+ghost use Rattle.conf_model.specs.Configurations.{Configuration};
 ghost use Rattle.layer_model.specs.Annotations.{Annotations};
-ghost use Rattle.layer_core.specs.WellFormed.{IsWellFormed};
+ghost use Rattle.layer_rules.specs.WellFormed.{IsWellFormed};
 ghost use Rattle.ann_reader.specs.AnnFiles.{IsAnn};
 ghost use Rattle.ann_writer.specs.AnnOf.{ann_of};
 ghost use Rattle.ann_writer.specs.Writable.{IsOfProgram};

@@ -6,8 +6,8 @@ ghost use Rattle.std.specs.FinMap as finite;
 ghost use Rattle.ann_writer.specs.AnnOf.{lines_of};
 
 use crate::lines::{push_attribute, push_event, push_normal, push_note, push_relation, push_span};
-use annotation_conf::Conf;
 use char_documents::Doc;
+use conf_model::Conf;
 use layer_model::{Attribute, Event, Normal, Note, Relation, Span};
 use mark_base::{AnnId, Kind, Memory};
 use std::alloc::Global;

@@ -12,8 +12,8 @@ use crate::words::{
     attribute_name, frags_word, id_word, pair_word, relation_name, relation_role, spelling,
     type_name, value_name,
 };
-use annotation_conf::Conf;
 use char_documents::{Doc, RefFault};
+use conf_model::Conf;
 use layer_model::{Attribute, Class, Event, Normal, Note, Relation, Span};
 use mark_base::{AnnId, Frag, Kind, Memory, Text};
 use std::alloc::Global;

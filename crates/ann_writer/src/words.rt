@@ -3,13 +3,13 @@ ghost use Rattle.std.specs.Prelude.{◌≡◌, ◌++◌, ◌+◌, ◌<◌, ◌�
 ghost use Rattle.std.specs.List.{All, flat_map};
 ghost use Rattle.mark_base.specs.declared.arguments.Arg.{Arg};
 ghost use Rattle.mark_base.specs.AnnIds.{spelling_of};
-ghost use Rattle.annotation_conf.specs.Lookups.{role_name, roles_of};
-ghost use Rattle.annotation_conf.specs.ConfText.{type_name_at, relation_name_at};
+ghost use Rattle.conf_model.specs.Lookups.{role_name, roles_of};
+ghost use Rattle.conf_model.specs.ConfText.{type_name_at, relation_name_at};
 ghost use Rattle.ann_writer.specs.AnnOf.{attribute_name_at, relation_role_at, value_name_at};
 ghost use Rattle.ann_writer.specs.Words.{frag_word, frags_word, id_word, pair_word, reads_as, role_name_at, role_spelling};
 
 use ann_reader::role_read;
-use annotation_conf::Conf;
+use conf_model::Conf;
 use mark_base::{AnnId, AttrId, Frag, Kind, Memory, RelId, Text, TypeId};
 use std::alloc::Global;
 

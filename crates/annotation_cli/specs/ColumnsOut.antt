@@ -1,6 +1,6 @@
 -- What `columns-out BOOK WHO NAME` does: it opens a project, and shows a committed layer as token and label columns.
 use Rattle.std.specs.Prelude.{◌≡◌, ◌⊎◌, ⊤, ℕ, List, Option, Some}
-use Rattle.annotation_conf.specs.Configurations.{Configuration}
+use Rattle.conf_model.specs.Configurations.{Configuration}
 use Rattle.layer_model.specs.Annotations.{Annotations}
 use Rattle.token_columns.specs.Columns.{columns}
 use Rattle.token_columns.specs.Fits.{Fits}

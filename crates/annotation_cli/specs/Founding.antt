@@ -1,7 +1,7 @@
 -- What `found BOOK CONF ROSTER` and `found-at BOOK CONF ROSTER LEVEL` do: the two files are read, and a project is founded in a file that was empty or absent.
 use Rattle.std.specs.Prelude.{◌≡◌, ◌⊎◌, ℕ, List, ◌++◌, codes, decimal, Option}
 use Rattle.entry_bytes.specs.declared.person.Person.{Person}
-use Rattle.annotation_conf.specs.Configurations.{Configuration}
+use Rattle.conf_model.specs.Configurations.{Configuration}
 use Rattle.project_machine.specs.People.{annotator_count, curator_count}
 use Rattle.project_book.specs.Founding.{founded}
 use Rattle.program_inputs.specs.declared.trouble.Trouble.{Trouble}

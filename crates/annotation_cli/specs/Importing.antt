@@ -1,7 +1,7 @@
 -- What `import BOOK WHO NAME ANN` does: it opens a project, reads an .ann file for a document of it, and commits the file's layer for an annotator.
 use Rattle.std.specs.Prelude.{◌≡◌, ◌⊎◌, ℕ, List, [], codes, Option, Some, option_map, Result, Ok, Err}
 use Rattle.std.specs.Result.{result_ok}
-use Rattle.annotation_conf.specs.Configurations.{Configuration}
+use Rattle.conf_model.specs.Configurations.{Configuration}
 use Rattle.layer_model.specs.Annotations.{Annotations}
 use Rattle.layer_model.specs.declared.rule.Rule.{Rule}
 use Rattle.layer_core.specs.declared.command.Command.TheVariants.{Load}

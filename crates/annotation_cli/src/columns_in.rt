@@ -1,12 +1,12 @@
 //! The command `columns-in`: three files are read, and the layer that the last one shows is written as .ann lines.
 ghost use Rattle.std.specs.Prelude.{◌≡◌, ◌≢◌, ◌≤◌, IfErr, IsErrOf, length};
 ghost use Rattle.mark_base.specs.Streams.{OnlyWrites, TellsFault};
-ghost use Rattle.layer_core.specs.WellFormed.{IsWellFormed};
+ghost use Rattle.layer_rules.specs.WellFormed.{IsWellFormed};
 ghost use Rattle.annotation_cli.specs.ColumnsIn.{ColumnsTold, ShownTold, WritesLayer};
 
 use ann_writer::ann_bytes;
-use annotation_conf::Conf;
 use char_documents::Doc;
+use conf_model::Conf;
 use layer_model::Layer;
 use mark_base::{Link, Memory, send_all};
 use program_inputs::{Folder, Trouble, read_columns_file, read_conf_file, read_text_file};

@@ -3,7 +3,7 @@ ghost use Rattle.std.specs.Prelude.{◌≡◌, ◌≢◌, None, IfErr, IfOk, IsE
 ghost use Rattle.std.specs.Arc.{arc_value};
 ghost use Rattle.named_disks.specs.NamedDisks.{IsIn, KeepsOthers, reads_as};
 ghost use Rattle.project_book.specs.Keeping.{TellsKeeper};
-ghost use Rattle.layer_core.specs.WellFormed.{IsWellFormed};
+ghost use Rattle.layer_rules.specs.WellFormed.{IsWellFormed};
 ghost use Rattle.token_columns.specs.Columns.{columns};
 ghost use Rattle.token_columns.specs.Fits.{Fits};
 ghost use Rattle.annotation_cli.specs.ColumnsOut.{LacksColumns, NoColumns, NotShown, PrintsColumns, ShowsColumns};

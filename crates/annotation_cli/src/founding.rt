@@ -7,7 +7,7 @@ ghost use Rattle.program_inputs.specs.ProjectFiles.ProjectFiles.{IsFileOf, NotMa
 ghost use Rattle.project_book.specs.Founding.{founded};
 ghost use Rattle.annotation_cli.specs.Founding.{Founds, NotFounded, people_line};
 
-use annotation_conf::Conf;
+use conf_model::Conf;
 use entry_bytes::Person;
 use mark_base::{Bytes, Memory};
 use named_disks::Disks;

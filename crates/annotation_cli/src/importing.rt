@@ -14,9 +14,9 @@ ghost use Rattle.annotation_cli.specs.Commands.Requests.{Grants, RefusesTo};
 ghost use Rattle.annotation_cli.specs.Importing.{Commits, Imports, ImportsFile, ImportsHere, Loads, NoLayer, NotCommitted, NotImported, NotImportedFrom, NotImportedHere, NotLoaded, NotRead, Reads, ReadsLayer, park_of};
 
 use crate::commands::{ask_granted, check_out};
-use annotation_conf::Conf;
 use annotation_http::{Held, park_request};
 use char_documents::Doc;
+use conf_model::Conf;
 use layer_core::{Command, Refusal};
 use layer_model::Layer;
 use mark_base::{Bytes, Memory, Slug, Steps};

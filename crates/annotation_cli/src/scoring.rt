@@ -12,8 +12,8 @@ ghost use Rattle.annotation_cli.specs.Scoring.{NotScored, PrintsScores, ShowsSco
 use crate::commands::{ask, ask_granted, trouble_of};
 use crate::showing::curator_in;
 use entry_bytes::Person;
-use layer_core::well_formed_layers_cohere;
 use layer_model::Layer;
+use layer_rules::well_formed_layers_cohere;
 use mark_base::{Bytes, Memory, Slug, Steps};
 use match_scores::{Scores, scores_csv};
 use named_disks::Disks;

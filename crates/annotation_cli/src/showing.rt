@@ -4,7 +4,7 @@ ghost use Rattle.std.specs.Option.{option_copied};
 ghost use Rattle.std.specs.Arc.{arc_value};
 ghost use Rattle.named_disks.specs.NamedDisks.{IsIn, KeepsOthers, reads_as};
 ghost use Rattle.project_book.specs.Keeping.{TellsKeeper};
-ghost use Rattle.layer_core.specs.WellFormed.{IsWellFormed};
+ghost use Rattle.layer_rules.specs.WellFormed.{IsWellFormed};
 ghost use Rattle.ann_reader.specs.AnnFiles.{IsAnn};
 ghost use Rattle.ann_writer.specs.AnnOf.{ann_of};
 ghost use Rattle.project_machine.specs.History.{after};
@@ -18,8 +18,8 @@ ghost use Rattle.annotation_cli.specs.Showing.{Exports, NoSnapshot, NotExported,
 
 use crate::commands::ask_granted;
 use ann_writer::ann_bytes;
-use annotation_conf::Conf;
 use char_documents::Doc;
+use conf_model::Conf;
 use entry_bytes::Person;
 use layer_model::Layer;
 use mark_base::{Bytes, Memory, Slug, Steps};

@@ -10,10 +10,10 @@ use Rattle.annotation_conf.specs.declared.faults_macros.Kinds.{Kinds}
 use Rattle.annotation_conf.specs.declared.file.File.{File as FileValue}
 use Rattle.annotation_conf.specs.declared.file.MacroLine.{MacroLine as MacroLineValue}
 use Rattle.annotation_conf.specs.declared.pieces.Alternative.{Alternative as AlternativeValue}
-use Rattle.annotation_conf.specs.ConfPairs.{Alternative, Named, Held}
-use Rattle.annotation_conf.specs.ConfNames.{File, MacroLine, Holding, all_held, one_held, none_held, macro_named, built_in}
-use Rattle.annotation_conf.specs.ConfFaults.{Declared, names_of}
-use Rattle.annotation_conf.specs.ConfOf.{places_of}
+use Rattle.conf_model.specs.ConfPairs.{Alternative, Named, Held}
+use Rattle.conf_model.specs.ConfNames.{File, MacroLine, Holding, all_held, one_held, none_held, macro_named, built_in}
+use Rattle.conf_model.specs.ConfFaults.{Declared, names_of}
+use Rattle.conf_model.specs.ConfOf.{places_of}
 use Rattle.annotation_conf.specs.FileKept.{KeptMacro, kept_macro}
 use Rattle.annotation_conf.specs.FileShows.{seen_macro, seen_alternative}
 use Rattle.annotation_conf.specs.NamePlaces.{is_called, place_among}

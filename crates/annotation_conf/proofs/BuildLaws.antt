@@ -2,12 +2,16 @@
 use Rattle.std.proofs.Common.{◌≡◌, ℕ, List, length, map, sym, ◌∙◌, ap, arith}
 use Rattle.std.proofs.lemmas.List.{length-map}
 use Rattle.type_hierarchy.specs.declared.type_row.TypeRow.{TypeRow}
-use Rattle.annotation_conf.specs.ConfNames.{NamedLine, File}
-use Rattle.annotation_conf.specs.ConfFaults.{Declared, names_of, of_named, firsts, stands_twice}
-use Rattle.annotation_conf.specs.ConfOf.{relation_of, configuration_of}
-use Rattle.annotation_conf.specs.Configurations.{Role, RelationType, AttributeType, Overlap, Configuration}
-use Rattle.annotation_conf.specs.Kept.{IsKept}
-use Rattle.annotation_conf.specs.Sound.{IsSound}
+use Rattle.conf_model.specs.ConfNames.{NamedLine, File}
+use Rattle.conf_model.specs.ConfFaults.{Declared, names_of, of_named, firsts, stands_twice}
+use Rattle.conf_model.specs.ConfOf.{relation_of, configuration_of}
+use Rattle.conf_model.specs.Configurations.{Configuration}
+use Rattle.conf_model.specs.declared.role.Role.{Role}
+use Rattle.conf_model.specs.declared.relation_type.RelationType.{RelationType}
+use Rattle.conf_model.specs.declared.attribute_type.AttributeType.{AttributeType}
+use Rattle.conf_model.specs.declared.overlap_line.Overlap.{Overlap}
+use Rattle.conf_model.specs.Kept.{IsKept}
+use Rattle.conf_model.specs.Sound.{IsSound}
 use Rattle.annotation_conf.specs.BuildPlaces.{AreTables}
 use Rattle.annotation_conf.specs.BuildTold.{IsFaultless}
 use Rattle.annotation_conf.proofs.FaultLists.{map_twice}

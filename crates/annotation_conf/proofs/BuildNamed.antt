@@ -10,9 +10,9 @@ use Rattle.annotation_conf.specs.declared.file.TypeLine.{TypeLine as TypeLineVal
 use Rattle.annotation_conf.specs.declared.file.NamedLine.{NamedLine as NamedLineValue}
 use Rattle.annotation_conf.specs.declared.pieces.Alternative.{Alternative as AlternativeValue}
 use Rattle.annotation_conf.specs.declared.pieces.RolePair.{RolePair as RolePairValue}
-use Rattle.annotation_conf.specs.ConfPairs.{Alternative}
-use Rattle.annotation_conf.specs.ConfNames.{TypeLine, NamedLine, File}
-use Rattle.annotation_conf.specs.ConfFaults.{RolePair, pairs_of, is_shapeless, is_no_name, is_no_declared, names_badly, values_badly, is_values, is_held, is_binary, word_of}
+use Rattle.conf_model.specs.ConfPairs.{Alternative}
+use Rattle.conf_model.specs.ConfNames.{TypeLine, NamedLine, File}
+use Rattle.conf_model.specs.ConfFaults.{RolePair, pairs_of, is_shapeless, is_no_name, is_no_declared, names_badly, values_badly, is_values, is_held, is_binary, word_of}
 use Rattle.annotation_conf.specs.FileKept.{KeptType, KeptNamed, kept_type, kept_named}
 use Rattle.annotation_conf.specs.FileShows.{seen_pair, seen_alternative, seen_type, seen_named}
 use Rattle.annotation_conf.specs.KnownFiles.{IsKnown}

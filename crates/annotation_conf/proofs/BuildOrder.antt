@@ -8,8 +8,8 @@ use Rattle.std.specs.BTreeSet.{insert_key}
 use Rattle.std.proofs.lemmas.Bool.{lt-ltb, le-ltb, ne_eqb, eq-eqb, cases_eq}
 use Rattle.std.proofs.lemmas.List.Folds.{list_any-append}
 use Rattle.std.proofs.lemmas.Option.{same_Some}
-use Rattle.annotation_conf.specs.ConfFaults.{is_among, stands_twice}
-use Rattle.annotation_conf.specs.ConfOf.{places_of}
+use Rattle.conf_model.specs.ConfFaults.{is_among, stands_twice}
+use Rattle.conf_model.specs.ConfOf.{places_of}
 use Rattle.annotation_conf.specs.BuildPlaces.{place_in, inserted}
 use Rattle.annotation_conf.proofs.SoundNames.{same_bytes, bytes_same}
 

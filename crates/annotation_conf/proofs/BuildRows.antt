@@ -7,8 +7,8 @@ use Rattle.std.proofs.lemmas.Bool.{ne_eqb, eq-eqb, cases_eq}
 use Rattle.std.proofs.lemmas.List.{take_more, map-append, append_assoc, length-take-le, length-map}
 use Rattle.type_hierarchy.specs.declared.type_row.TypeRow.{TypeRow}
 use Rattle.annotation_conf.specs.declared.file.TypeLine.{TypeLine as TypeLineValue}
-use Rattle.annotation_conf.specs.ConfNames.{TypeLine}
-use Rattle.annotation_conf.specs.ConfOf.{rows_from, last_at}
+use Rattle.conf_model.specs.ConfNames.{TypeLine}
+use Rattle.conf_model.specs.ConfOf.{rows_from, last_at}
 use Rattle.annotation_conf.specs.BuildTold.{bare_type, FindsDepths, parent_by}
 use Rattle.annotation_conf.proofs.BuildOrder.{cmp_same, nat_apart}
 

@@ -7,11 +7,13 @@ use Rattle.annotation_conf.specs.declared.file.File.{File as FileValue}
 use Rattle.annotation_conf.specs.declared.file.TypeLine.{TypeLine as TypeLineValue}
 use Rattle.annotation_conf.specs.declared.file.NamedLine.{NamedLine as NamedLineValue}
 use Rattle.annotation_conf.specs.declared.pieces.RolePair.{RolePair as RolePairValue}
-use Rattle.annotation_conf.specs.ConfPairs.{Alternative, Piece, Shapeless, Keyed, Pair}
-use Rattle.annotation_conf.specs.ConfNames.{TypeLine, NamedLine, File}
-use Rattle.annotation_conf.specs.ConfFaults.{RolePair, pairs_of, is_values, is_attribute, is_among, word_of, keyed_value, names_of, bound_names, of_types, of_named, firsts, stood_before}
-use Rattle.annotation_conf.specs.ConfOf.{rows_from, last_at, role_of, arguments_of, role_at, relation_of, attribute_of, overlap_of, has_kind, resolved, configuration_of}
-use Rattle.annotation_conf.specs.Configurations.{Arguments, RelationType, Overlap}
+use Rattle.conf_model.specs.ConfPairs.{Alternative, Piece, Shapeless, Keyed, Pair}
+use Rattle.conf_model.specs.ConfNames.{TypeLine, NamedLine, File}
+use Rattle.conf_model.specs.ConfFaults.{RolePair, pairs_of, is_values, is_attribute, is_among, word_of, keyed_value, names_of, bound_names, of_types, of_named, firsts, stood_before}
+use Rattle.conf_model.specs.ConfOf.{rows_from, last_at, role_of, arguments_of, role_at, relation_of, attribute_of, overlap_of, has_kind, resolved, configuration_of}
+use Rattle.conf_model.specs.declared.relation_type.Arguments.{Arguments}
+use Rattle.conf_model.specs.declared.relation_type.RelationType.{RelationType}
+use Rattle.conf_model.specs.declared.overlap_line.Overlap.{Overlap}
 use Rattle.annotation_conf.specs.FileKept.{KeyedPair, KeptType, KeptNamed, kept_type, kept_named, keyed_of}
 use Rattle.annotation_conf.specs.FileShows.{seen_pair, seen_keyed, seen_alternative, seen_type, seen_named}
 use Rattle.annotation_conf.specs.FaultsTold.{mark_equivalence}
@@ -126,7 +128,7 @@ relation_is file values line shown =
       name = line.name;
       first = role_at (pairs_of line.pieces) 0;
       second = role_at (pairs_of line.pieces) 1;
-      equivalence = Rattle.annotation_conf.specs.ConfFaults.is_equivalence_line line.pieces;
+      equivalence = Rattle.conf_model.specs.ConfFaults.is_equivalence_line line.pieces;
       lines = xs;
     }) (arguments_shown file values file.relations line.name shown)
 

@@ -1,7 +1,7 @@
 -- The count of a mark in braces.
 use Rattle.std.proofs.Common.{◌≡◌, ℕ, true, false, List, [], ◌∷◌, None, refl}
-use Rattle.annotation_conf.specs.ConfLines.{is_enclosed, enclosed}
-use Rattle.annotation_conf.specs.ConfPairs.{count_of}
+use Rattle.conf_model.specs.ConfLines.{is_enclosed, enclosed}
+use Rattle.conf_model.specs.ConfPairs.{count_of}
 use Rattle.annotation_conf.specs.CountShows.{braces_count}
 
 -- a mark in braces has the count that stands there

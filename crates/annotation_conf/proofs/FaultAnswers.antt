@@ -7,13 +7,13 @@ use Rattle.std.specs.Str.Lossy.{utf8_valid_len}
 use Rattle.std.proofs.lemmas.Str.{utf8_valid_len-IsUtf8}
 use Rattle.std.proofs.lemmas.Bool.{cond-true, cond-false, lt-ltb, le-ltb}
 use Rattle.std.proofs.lemmas.List.{length-map}
-use Rattle.annotation_conf.specs.declared.conf_fault.ConfWhat.TheVariants.{NotUtf8, SectionMissing}
+use Rattle.conf_model.specs.declared.conf_fault.ConfWhat.TheVariants.{NotUtf8, SectionMissing}
 use Rattle.annotation_conf.specs.declared.faults.LineFault.{LineFault}
 use Rattle.annotation_conf.specs.declared.line.Line.{Line as LineValue}
-use Rattle.annotation_conf.specs.ConfLines.{Line, Place, Before, lines_from, Entities}
-use Rattle.annotation_conf.specs.ConfFaults.{is_header}
-use Rattle.annotation_conf.specs.ConfNames.{File, file_of}
-use Rattle.annotation_conf.specs.ConfOf.{missing_fault, answer_of, conf_of, configuration_of}
+use Rattle.conf_model.specs.ConfLines.{Line, Place, Before, lines_from, Entities}
+use Rattle.conf_model.specs.ConfFaults.{is_header}
+use Rattle.conf_model.specs.ConfNames.{File, file_of}
+use Rattle.conf_model.specs.ConfOf.{missing_fault, answer_of, conf_of, configuration_of}
 use Rattle.annotation_conf.specs.FirstFaults.{soonest_fault}
 use Rattle.annotation_conf.specs.FileKept.{kept_line}
 use Rattle.annotation_conf.specs.FileShows.{seen_line}

@@ -5,8 +5,8 @@ use Rattle.std.proofs.lemmas.Option.{same_Some}
 use Rattle.std.proofs.lemmas.List.{get_or-map, length-map}
 use Rattle.annotation_conf.specs.declared.file.File.{File as FileValue}
 use Rattle.annotation_conf.specs.declared.file.NamedLine.{NamedLine as NamedLineValue}
-use Rattle.annotation_conf.specs.ConfNames.{NamedLine, File}
-use Rattle.annotation_conf.specs.ConfFaults.{of_named, first_line}
+use Rattle.conf_model.specs.ConfNames.{NamedLine, File}
+use Rattle.conf_model.specs.ConfFaults.{of_named, first_line}
 use Rattle.annotation_conf.specs.FileKept.{kept_named}
 use Rattle.annotation_conf.specs.FileShows.{seen_named}
 use Rattle.annotation_conf.specs.NamePlaces.{is_called}

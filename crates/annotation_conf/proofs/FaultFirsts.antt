@@ -4,8 +4,8 @@ use Rattle.std.specs.List.{list_any}
 use Rattle.std.specs.Option.{option_or}
 use Rattle.std.proofs.lemmas.Bool.{lt-ltb, le-ltb}
 use Rattle.std.proofs.lemmas.List.{append_assoc, length-append}
-use Rattle.annotation_conf.specs.declared.conf_fault.ConfWhat.{ConfWhat}
-use Rattle.annotation_conf.specs.declared.conf_fault.ConfWhat.TheVariants.{UnknownSection, SectionTwice, OutsideSection}
+use Rattle.conf_model.specs.declared.conf_fault.ConfWhat.{ConfWhat}
+use Rattle.conf_model.specs.declared.conf_fault.ConfWhat.TheVariants.{UnknownSection, SectionTwice, OutsideSection}
 use Rattle.annotation_conf.specs.declared.faults.Opened.{Opened}
 use Rattle.annotation_conf.specs.declared.line.Section.{Section as SectionValue}
 use Rattle.annotation_conf.specs.declared.line.Section.TheVariants.{Entities as EntitiesValue, Relations as RelationsValue, Events as EventsValue, Attributes as AttributesValue}
@@ -15,9 +15,9 @@ use Rattle.annotation_conf.specs.declared.line.Line.{Line as LineValue}
 use Rattle.annotation_conf.specs.declared.file.TypeLine.{TypeLine as TypeLineValue}
 use Rattle.annotation_conf.specs.declared.file.NamedLine.{NamedLine as NamedLineValue}
 use Rattle.annotation_conf.specs.declared.file.MacroLine.{MacroLine as MacroLineValue}
-use Rattle.annotation_conf.specs.ConfLines.{Section, Entities, Place, Before, Nowhere, Within, Kind, Skipped, Header, Macro, Content, Line}
-use Rattle.annotation_conf.specs.ConfNames.{is_section, TypeLine, NamedLine, MacroLine, File}
-use Rattle.annotation_conf.specs.ConfFaults.{line_before, last_of, type_fault, pairs_of, is_shapeless, is_header, opened_before}
+use Rattle.conf_model.specs.ConfLines.{Section, Entities, Place, Before, Nowhere, Within, Kind, Skipped, Header, Macro, Content, Line}
+use Rattle.conf_model.specs.ConfNames.{is_section, TypeLine, NamedLine, MacroLine, File}
+use Rattle.conf_model.specs.ConfFaults.{line_before, last_of, type_fault, pairs_of, is_shapeless, is_header, opened_before}
 use Rattle.annotation_conf.specs.FirstFaults.{first_among, IsRising, bare_at, bare_fault, macro_line_fault}
 use Rattle.annotation_conf.specs.FileKept.{Said, SaysNothing, NamesNone, OpensSection, StandsOutside, KeptType, KeptNamed, KeptMacro, KeptLine, kept_type, kept_named, kept_macro, kept_line, said_of}
 use Rattle.annotation_conf.specs.FileShows.{seen_type, seen_named, seen_macro, seen_line, seen_what, seen_section}

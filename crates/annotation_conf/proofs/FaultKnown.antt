@@ -1,8 +1,8 @@
 -- What the values of a read file declare is what the file declares, in the order of its lines.
 use Rattle.std.proofs.Common.{◌≡◌, ℕ, ◌+◌, ◌≤◌, Bool, true, false, not, cond, List, [], ◌∷◌, map, filter, refl, sym, ◌∙◌, ap, subst, arith}
 use Rattle.annotation_conf.specs.declared.file.File.{File as FileValue}
-use Rattle.annotation_conf.specs.ConfNames.{TypeLine, NamedLine, MacroLine, File}
-use Rattle.annotation_conf.specs.ConfFaults.{Declared, of_types, of_named, firsts, stood_before}
+use Rattle.conf_model.specs.ConfNames.{TypeLine, NamedLine, MacroLine, File}
+use Rattle.conf_model.specs.ConfFaults.{Declared, of_types, of_named, firsts, stood_before}
 use Rattle.annotation_conf.specs.FirstFaults.{IsRising}
 use Rattle.annotation_conf.specs.FileKept.{KeptType, KeptNamed, KeptMacro, kept_type, kept_named, kept_macro}
 use Rattle.annotation_conf.specs.FileShows.{seen_type, seen_named, seen_macro}

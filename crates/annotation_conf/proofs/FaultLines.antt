@@ -4,9 +4,9 @@ use Rattle.std.specs.Bool.{⊤}
 use Rattle.std.specs.Option.{option_or}
 use Rattle.std.specs.List.{filter_map, cons_option}
 use Rattle.std.proofs.lemmas.Bool.{lt-ltb, le-ltb, ne_eqb, eq-eqb}
-use Rattle.annotation_conf.specs.declared.conf_fault.ConfWhat.{ConfWhat}
-use Rattle.annotation_conf.specs.ConfLines.{Line, Place, lines_from}
-use Rattle.annotation_conf.specs.ConfOf.{Fault, first_fault}
+use Rattle.conf_model.specs.declared.conf_fault.ConfWhat.{ConfWhat}
+use Rattle.conf_model.specs.ConfLines.{Line, Place, lines_from}
+use Rattle.conf_model.specs.ConfOf.{Fault, first_fault}
 use Rattle.annotation_conf.specs.FirstFaults.{first_among, sooner, IsRising}
 
 -- the lines have these numbers, one after another
@@ -91,9 +91,9 @@ same_faults g h (l ∷ lines) same =
     ∙ ap (λ o. option_or (option_map (λ w. record { line = l.number; what = w }) (h l)) o) (same_faults g h lines (λ line is. same line (inr is)))
 
 -- the definition's own recursion
-pub first_fault_by : (file : _) (lines : List Line) → first_fault file lines ≡ fault_by (λ line. Rattle.annotation_conf.specs.ConfFaults.fault_at file line.number line.place line.kind) lines
+pub first_fault_by : (file : _) (lines : List Line) → first_fault file lines ≡ fault_by (λ line. Rattle.conf_model.specs.ConfFaults.fault_at file line.number line.place line.kind) lines
 first_fault_by file [] = refl
-first_fault_by file (l ∷ lines) = ap (λ o. option_or (option_map (λ w. record { line = l.number; what = w }) (Rattle.annotation_conf.specs.ConfFaults.fault_at file l.number l.place l.kind)) o) (first_fault_by file lines)
+first_fault_by file (l ∷ lines) = ap (λ o. option_or (option_map (λ w. record { line = l.number; what = w }) (Rattle.conf_model.specs.ConfFaults.fault_at file l.number l.place l.kind)) o) (first_fault_by file lines)
 
 part_step : {X : Type 0} (f : Line → Option X) (n_of : X → ℕ) (fault : X → Option ConfWhat) (l : Line)
     → ((x : X) → f l ≡ Some x → n_of x ≡ l.number) → (more : Option Fault) (xs : List X) → more ≡ first_among n_of fault xs

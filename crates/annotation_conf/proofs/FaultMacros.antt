@@ -8,9 +8,9 @@ use Rattle.std.proofs.lemmas.List.{take_more, map-append, length-map, get_or-map
 use Rattle.std.proofs.lemmas.List.Folds.{list_any-append}
 use Rattle.std.proofs.lemmas.Option.{same_Some}
 use Rattle.annotation_conf.specs.declared.faults_macros.Kinds.{Kinds}
-use Rattle.annotation_conf.specs.ConfPairs.{Alternative, Named, Held}
-use Rattle.annotation_conf.specs.ConfNames.{File, MacroLine, Holding, all_held, one_held, both_held, none_held, macro_named, built_in}
-use Rattle.annotation_conf.specs.ConfFaults.{is_among, names_of, bound_names, declared_names, is_unknown, is_unheld}
+use Rattle.conf_model.specs.ConfPairs.{Alternative, Named, Held}
+use Rattle.conf_model.specs.ConfNames.{File, MacroLine, Holding, all_held, one_held, both_held, none_held, macro_named, built_in}
+use Rattle.conf_model.specs.ConfFaults.{is_among, names_of, bound_names, declared_names, is_unknown, is_unheld}
 use Rattle.annotation_conf.specs.NamePlaces.{is_called, place_among}
 use Rattle.annotation_conf.specs.declared.file.File.{File as FileValue}
 use Rattle.annotation_conf.specs.declared.file.MacroLine.{MacroLine as MacroLineValue}

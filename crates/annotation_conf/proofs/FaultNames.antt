@@ -17,7 +17,7 @@ use denote.Ref.{Bor}
 use Rattle.annotation_conf.specs.NamePlaces.{seen_declared}
 use Rattle.std.proofs.lemmas.Option.{same_Some}
 use Rattle.std.proofs.lemmas.Slice.Eq.{bytes_eq-Decides}
-use Rattle.annotation_conf.specs.ConfFaults.{Declared, stood_before, is_among, names_of}
+use Rattle.conf_model.specs.ConfFaults.{Declared, stood_before, is_among, names_of}
 use Rattle.annotation_conf.specs.FirstFaults.{IsRising}
 use Rattle.annotation_conf.specs.NamePlaces.{is_called, place_among, FindsPlaces}
 

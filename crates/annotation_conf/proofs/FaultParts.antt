@@ -6,12 +6,12 @@ use Rattle.std.specs.Str.Lines.{lines}
 use Rattle.std.proofs.lemmas.List.{append_assoc, append-nil}
 use Rattle.std.proofs.lemmas.Option.{same_Some}
 use Rattle.std.proofs.lemmas.List.Folds.{find-append}
-use Rattle.annotation_conf.specs.declared.conf_fault.ConfWhat.{ConfWhat}
-use Rattle.annotation_conf.specs.ConfLines.{Section, Entities, Relations, Events, Attributes, Place, Before, Nowhere, Within, Kind, Skipped, Header, Macro, Content, Line, file_lines}
-use Rattle.annotation_conf.specs.ConfPairs.{alternatives_of}
-use Rattle.annotation_conf.specs.ConfNames.{TypeLine, NamedLine, MacroLine, File, type_line, named_line, is_overlap, content_of, macro_at, macros_from, all_held, file_of_lines, file_of}
-use Rattle.annotation_conf.specs.ConfFaults.{type_fault, relation_fault, overlap_fault, attribute_fault, macro_fault, fault_at}
-use Rattle.annotation_conf.specs.ConfOf.{Fault, first_fault}
+use Rattle.conf_model.specs.declared.conf_fault.ConfWhat.{ConfWhat}
+use Rattle.conf_model.specs.ConfLines.{Section, Entities, Relations, Events, Attributes, Place, Before, Nowhere, Within, Kind, Skipped, Header, Macro, Content, Line, file_lines}
+use Rattle.conf_model.specs.ConfPairs.{alternatives_of}
+use Rattle.conf_model.specs.ConfNames.{TypeLine, NamedLine, MacroLine, File, type_line, named_line, is_overlap, content_of, macro_at, macros_from, all_held, file_of_lines, file_of}
+use Rattle.conf_model.specs.ConfFaults.{type_fault, relation_fault, overlap_fault, attribute_fault, macro_fault, fault_at}
+use Rattle.conf_model.specs.ConfOf.{Fault, first_fault}
 use Rattle.annotation_conf.specs.FirstFaults.{first_among, sooner, soonest_fault, bare_at, bare_fault, event_fault, macro_line_fault, IsRising, IsInOrder}
 use Rattle.annotation_conf.specs.KnownFiles.{HoldInTurn}
 use Rattle.annotation_conf.proofs.FaultLines.{IsFrom, IsLine, lines_are_from, fault_by, two_parts, same_faults, first_fault_by, part_fault, find_part, part_rises, where_passes, filter_part}

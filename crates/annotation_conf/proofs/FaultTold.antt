@@ -3,17 +3,17 @@ use Rattle.std.proofs.Common.{◌≡◌, ℕ, ◌||◌, ◌&&◌, Bool, true, fa
 use Rattle.std.specs.List.{list_any, filter_map, cons_option}
 use Rattle.std.specs.Option.{option_map_or}
 use Rattle.std.proofs.lemmas.List.{length-map}
-use Rattle.annotation_conf.specs.declared.conf_fault.ConfWhat.{ConfWhat}
-use Rattle.annotation_conf.specs.declared.conf_fault.ConfWhat.TheVariants.{BadIndent, BadName, NameTwice, BadCount, BadArgument, UnknownTypeNamed, UnknownMacro, TooManyTypes}
+use Rattle.conf_model.specs.declared.conf_fault.ConfWhat.{ConfWhat}
+use Rattle.conf_model.specs.declared.conf_fault.ConfWhat.TheVariants.{BadIndent, BadName, NameTwice, BadCount, BadArgument, UnknownTypeNamed, UnknownMacro, TooManyTypes}
 use Rattle.annotation_conf.specs.declared.pieces.Alternative.{Alternative as AlternativeValue}
 use Rattle.annotation_conf.specs.declared.pieces.Alternative.TheVariants.{Named as NamedValue, Held as HeldValue}
 use Rattle.annotation_conf.specs.declared.pieces.RolePair.{RolePair as RolePairValue}
 use Rattle.annotation_conf.specs.declared.file.TypeLine.{TypeLine as TypeLineValue}
 use Rattle.annotation_conf.specs.declared.file.NamedLine.{NamedLine as NamedLineValue}
 use Rattle.annotation_conf.specs.declared.file.MacroLine.{MacroLine as MacroLineValue}
-use Rattle.annotation_conf.specs.ConfPairs.{Alternative, Piece, Shapeless, Keyed, Pair, count_of}
-use Rattle.annotation_conf.specs.ConfNames.{TypeLine, NamedLine, MacroLine, Holding, File, macro_named}
-use Rattle.annotation_conf.specs.ConfFaults.{RolePair, first_told, names_badly, values_badly, is_values, stands_twice, is_no_name, is_no_declared, word_of, is_among, is_unknown, is_unheld, names_of, bound_names, declared_names, kinds_lead, of_types, of_named, firsts, stood_before, are_past, is_binary, are_arguments, is_attribute, has_kinds, same_words, same_truth, first_line, is_too_deep, type_fault, relation_fault, overlap_fault, attribute_fault, macro_fault, pairs_of, is_shapeless, keyed_value, is_equivalence_line, agrees, line_before}
+use Rattle.conf_model.specs.ConfPairs.{Alternative, Piece, Shapeless, Keyed, Pair, count_of}
+use Rattle.conf_model.specs.ConfNames.{TypeLine, NamedLine, MacroLine, Holding, File, macro_named}
+use Rattle.conf_model.specs.ConfFaults.{RolePair, first_told, names_badly, values_badly, is_values, stands_twice, is_no_name, is_no_declared, word_of, is_among, is_unknown, is_unheld, names_of, bound_names, declared_names, kinds_lead, of_types, of_named, firsts, stood_before, are_past, is_binary, are_arguments, is_attribute, has_kinds, same_words, same_truth, first_line, is_too_deep, type_fault, relation_fault, overlap_fault, attribute_fault, macro_fault, pairs_of, is_shapeless, keyed_value, is_equivalence_line, agrees, line_before}
 use Rattle.annotation_conf.specs.FileKept.{KeyedPair, KeptType, KeptNamed, KeptMacro, kept_type, kept_named, kept_macro, keyed_of}
 use Rattle.annotation_conf.specs.FileShows.{seen_alternative, seen_pair, seen_keyed, seen_type, seen_named, seen_macro}
 use Rattle.annotation_conf.specs.FaultsTold.{is_undeclared, too_deep, named_badly, marked_badly, names_no_type, unheld_in, type_told, mark_equivalence, agree_kept, agrees_with_first, relation_told, kinds_in, overlap_told, values_twice, target_names_nothing, target_unheld, targets_name_nothing, targets_unheld, has_many_values, many_values_in, attribute_told, macro_told}

@@ -3,7 +3,7 @@ use Rattle.std.proofs.Common.{◌≡◌, ℕ, ◌+◌, ◌<◌, ◌||◌, Bool, 
 use Rattle.std.specs.BTreeMap.{BTreeMap}
 use Rattle.std.proofs.lemmas.List.{take_more, map-append, append-nil, append_assoc, take-append-drop}
 use Rattle.annotation_conf.specs.declared.known_names.DeclaredName.{DeclaredName}
-use Rattle.annotation_conf.specs.ConfFaults.{Declared, is_among, names_of, stands_twice}
+use Rattle.conf_model.specs.ConfFaults.{Declared, is_among, names_of, stands_twice}
 use Rattle.annotation_conf.specs.NamePlaces.{seen_declared, FindsPlaces}
 use Rattle.annotation_conf.proofs.FaultNames.{bytes_eq_turns, found_among, look_up}
 use denote.Ref.{Bor}

@@ -4,8 +4,8 @@ use Rattle.std.specs.Str.{skip_leading_whitespace}
 use Rattle.std.specs.List.{filter, cons_option}
 use Rattle.std.proofs.lemmas.List.{append-nil, map-append}
 use Rattle.std.proofs.lemmas.List.Elements.{filter-append, filter_map-append}
-use Rattle.annotation_conf.specs.ConfLines.{Section, Entities, Relations, Events, Attributes, Place, Before, Nowhere, Within, Kind, Skipped, Header, Macro, Content, Line}
-use Rattle.annotation_conf.specs.ConfNames.{NamedLine, MacroLine, type_line, named_line, content_of, section_lines, is_overlap, macro_at, macros_from, file_of_lines}
+use Rattle.conf_model.specs.ConfLines.{Section, Entities, Relations, Events, Attributes, Place, Before, Nowhere, Within, Kind, Skipped, Header, Macro, Content, Line}
+use Rattle.conf_model.specs.ConfNames.{NamedLine, MacroLine, type_line, named_line, content_of, section_lines, is_overlap, macro_at, macros_from, file_of_lines}
 use Rattle.annotation_conf.specs.FileKept.{KeptMacro, KeptFile, kept_line, kept_type, kept_named, kept_macro, kept_file, said_of}
 use Rattle.annotation_conf.specs.FileGrows.{with_line, with_kind, grown, grown_by, nothing_kept}
 

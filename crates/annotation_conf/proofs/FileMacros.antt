@@ -1,8 +1,8 @@
 -- The macros of a file are those that are kept, with what each holds.
 use Rattle.std.proofs.Common.{◌≡◌, ℕ, List, [], ◌∷◌, ◌++◌, refl, sym, ◌∙◌, ap, append_assoc, map}
 use Rattle.std.proofs.lemmas.List.{append-nil, map-append}
-use Rattle.annotation_conf.specs.ConfLines.{Place, Kind, Skipped, Header, Macro, Content, Line, file_lines}
-use Rattle.annotation_conf.specs.ConfNames.{MacroLine, macro_at, macros_from, file_of}
+use Rattle.conf_model.specs.ConfLines.{Place, Kind, Skipped, Header, Macro, Content, Line, file_lines}
+use Rattle.conf_model.specs.ConfNames.{MacroLine, macro_at, macros_from, file_of}
 use Rattle.annotation_conf.specs.FileKept.{KeptMacro, kept_macro}
 use Rattle.annotation_conf.specs.FileHolds.{held_from}
 

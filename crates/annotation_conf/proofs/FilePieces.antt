@@ -1,8 +1,8 @@
 -- Pieces behind pieces, one at a time.
 use Rattle.std.proofs.Common.{◌≡◌, ◌<◌, ◌+◌, ℕ, Bool, true, false, ◌||◌, ◌&&◌, List, [], ◌∷◌, ◌++◌, length, get_or, drop, refl, sym, ap, ◌∙◌, append_assoc, add-one, drop-cons, map, Bor}
 use Rattle.std.specs.List.{list_any}
-use Rattle.annotation_conf.specs.ConfPairs.{Piece, Shapeless, Keyed, Pair}
-use Rattle.annotation_conf.specs.ConfFaults.{pairs_of, is_shapeless, is_kinds, is_pair, kinds_lead}
+use Rattle.conf_model.specs.ConfPairs.{Piece, Shapeless, Keyed, Pair}
+use Rattle.conf_model.specs.ConfFaults.{pairs_of, is_shapeless, is_kinds, is_pair, kinds_lead}
 use Rattle.annotation_conf.specs.FileKept.{Behind, keyed_of}
 use Rattle.annotation_conf.specs.FileGrows.{with_pieces, with_piece}
 

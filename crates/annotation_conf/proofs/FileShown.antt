@@ -4,8 +4,8 @@ use Rattle.std.specs.List.{slice_split, onto_first}
 use Rattle.std.specs.Str.Lines.{lines, lines_of_parts}
 use Rattle.std.proofs.Math.ListN.{drop_of_length-le}
 use Rattle.annotation_conf.specs.declared.file.File.{File as FileValue}
-use Rattle.annotation_conf.specs.ConfLines.{Place, Before, lines_from, file_lines}
-use Rattle.annotation_conf.specs.ConfNames.{File, file_of}
+use Rattle.conf_model.specs.ConfLines.{Place, Before, lines_from, file_lines}
+use Rattle.conf_model.specs.ConfNames.{File, file_of}
 use Rattle.annotation_conf.specs.FileKept.{KeptFile, kept_file}
 use Rattle.annotation_conf.specs.FileShows.{Shows, seen_file}
 use Rattle.annotation_conf.specs.FileGrows.{nothing_kept, grown_by}

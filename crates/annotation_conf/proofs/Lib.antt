@@ -4,7 +4,6 @@ mod BuildNamed
 mod BuildOrder
 mod BuildRows
 mod BuildTables
-mod CategoryLemmas
 pub mod CountMarks
 mod FaultAnswers
 mod FaultFirst

@@ -4,12 +4,15 @@ use Rattle.std.specs.List.{slice_split, join_with_byte}
 use Rattle.std.proofs.lemmas.Bool.{ltb-false}
 use Rattle.std.proofs.lemmas.List.{nil_from_length}
 use Rattle.std.proofs.lemmas.List.Elements.{recursion_from_All}
-use Rattle.annotation_conf.specs.ConfPairs.{Piece, Pair, Named}
-use Rattle.annotation_conf.specs.ConfFaults.{RolePair, pairs_of, is_values, is_among, word_of}
-use Rattle.annotation_conf.specs.ConfOf.{overlap_of, attribute_of, resolved, configuration_of}
-use Rattle.annotation_conf.specs.ConfText.{where_so}
-use Rattle.annotation_conf.specs.Configurations.{Alternatives, AttributeType, Overlap, Configuration}
-use Rattle.annotation_conf.specs.Sound.{IsAttribute, IsOverlap, IsSound}
+use Rattle.conf_model.specs.ConfPairs.{Piece, Pair, Named}
+use Rattle.conf_model.specs.ConfFaults.{RolePair, pairs_of, is_values, is_among, word_of}
+use Rattle.conf_model.specs.ConfOf.{overlap_of, attribute_of, resolved, configuration_of}
+use Rattle.conf_model.specs.ConfText.{where_so}
+use Rattle.conf_model.specs.Configurations.{Configuration}
+use Rattle.conf_model.specs.declared.alternatives.Alternatives.{Alternatives}
+use Rattle.conf_model.specs.declared.attribute_type.AttributeType.{AttributeType}
+use Rattle.conf_model.specs.declared.overlap_line.Overlap.{Overlap}
+use Rattle.conf_model.specs.Sound.{IsAttribute, IsOverlap, IsSound}
 use Rattle.annotation_conf.proofs.SoundLists.{each_weaker}
 use Rattle.annotation_conf.proofs.SoundHeld.{resolved_again}
 use Rattle.annotation_conf.proofs.SoundNumbered.{map-numbered}

@@ -8,14 +8,15 @@ use Rattle.std.proofs.lemmas.List.{length-map, map-append}
 use Rattle.std.proofs.lemmas.List.Elements.{All-from_recursion}
 use Rattle.std.proofs.lemmas.List.Folds.{list_any-append}
 use Rattle.type_hierarchy.specs.declared.type_row.TypeRow.{TypeRow}
-use Rattle.annotation_conf.specs.ConfPairs.{Alternative}
-use Rattle.annotation_conf.specs.ConfNames.{File, Holding, all_held, file_of_lines}
-use Rattle.annotation_conf.specs.ConfLines.{Line}
-use Rattle.annotation_conf.specs.ConfFaults.{Declared, of_named, bound_names, names_of, declared_names, is_among, is_unknown, is_unheld, firsts}
-use Rattle.annotation_conf.specs.ConfOf.{places_of, resolved, relation_of, configuration_of, first_fault}
-use Rattle.annotation_conf.specs.ConfText.{type_name_at, relation_name_at}
-use Rattle.annotation_conf.specs.Configurations.{RelationType, Configuration}
-use Rattle.annotation_conf.specs.Sound.{AreTargets}
+use Rattle.conf_model.specs.ConfPairs.{Alternative}
+use Rattle.conf_model.specs.ConfNames.{File, Holding, all_held, file_of_lines}
+use Rattle.conf_model.specs.ConfLines.{Line}
+use Rattle.conf_model.specs.ConfFaults.{Declared, of_named, bound_names, names_of, declared_names, is_among, is_unknown, is_unheld, firsts}
+use Rattle.conf_model.specs.ConfOf.{places_of, resolved, relation_of, configuration_of, first_fault}
+use Rattle.conf_model.specs.ConfText.{type_name_at, relation_name_at}
+use Rattle.conf_model.specs.Configurations.{Configuration}
+use Rattle.conf_model.specs.declared.relation_type.RelationType.{RelationType}
+use Rattle.conf_model.specs.Sound.{AreTargets}
 use Rattle.annotation_conf.proofs.SoundLists.{Each-map, map-map}
 use Rattle.annotation_conf.proofs.SoundLines.{AreNumbered, each_faultless}
 use Rattle.annotation_conf.proofs.SoundFiles.{KeepsAll, keeps_all}

@@ -8,10 +8,10 @@ use Rattle.std.proofs.lemmas.Bool.{and_parts, and_from, or_cases, ltb-true, lt-l
 use Rattle.std.proofs.lemmas.List.{take_at, get_or_at, length-append}
 use Rattle.std.proofs.lemmas.Fmt.{digits_decimal, digits_value-decimal, decimal_nonempty, length-decimal-le, first_decimal, decimal_digit}
 use Rattle.mark_base.specs.AnnIds.{is_canonical}
-use Rattle.annotation_conf.specs.ConfLines.{is_enclosed, enclosed}
-use Rattle.annotation_conf.specs.ConfPairs.{Count, number_of, range_of, count_of}
-use Rattle.annotation_conf.specs.ConfText.{mark_text}
-use Rattle.annotation_conf.specs.Sound.{has_mark}
+use Rattle.conf_model.specs.ConfLines.{is_enclosed, enclosed}
+use Rattle.conf_model.specs.ConfPairs.{Count, number_of, range_of, count_of}
+use Rattle.conf_model.specs.ConfText.{mark_text}
+use Rattle.conf_model.specs.Sound.{has_mark}
 use Rattle.annotation_conf.proofs.SoundMarks.{own}
 use Rattle.annotation_conf.proofs.SoundLists.{none_passes}
 use Rattle.annotation_conf.proofs.WrittenLists.{before_at, after_at, any_at}

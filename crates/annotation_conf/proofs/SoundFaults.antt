@@ -4,11 +4,11 @@ use Rattle.std.specs.Option.{option_map_or}
 use Rattle.std.specs.List.{AllByRecursion as Each, list_any}
 use Rattle.std.proofs.lemmas.Bool.{or_parts}
 use Rattle.std.proofs.lemmas.Option.{none-some}
-use Rattle.annotation_conf.specs.declared.conf_fault.ConfWhat.{ConfWhat}
-use Rattle.annotation_conf.specs.declared.conf_fault.ConfWhat.TheVariants.{BadIndent, BadName, NameTwice, BadCount, BadArgument, UnknownTypeNamed, UnknownMacro, TooManyTypes}
-use Rattle.annotation_conf.specs.ConfPairs.{Alternative, count_of}
-use Rattle.annotation_conf.specs.ConfNames.{TypeLine, NamedLine, File, macro_named}
-use Rattle.annotation_conf.specs.ConfFaults.{first_told, RolePair, pairs_of, is_too_deep, line_before, is_no_name, is_no_declared, names_badly, stood_before, bound_names, stands_twice, is_unknown, is_unheld, declared_names, kinds_lead, names_of, of_types, of_named, are_past, is_shapeless, is_binary, agrees, first_line, firsts, are_arguments, has_kinds, keyed_value, values_badly, is_values, is_attribute, word_of, type_fault, relation_fault, overlap_fault, attribute_fault, macro_fault}
+use Rattle.conf_model.specs.declared.conf_fault.ConfWhat.{ConfWhat}
+use Rattle.conf_model.specs.declared.conf_fault.ConfWhat.TheVariants.{BadIndent, BadName, NameTwice, BadCount, BadArgument, UnknownTypeNamed, UnknownMacro, TooManyTypes}
+use Rattle.conf_model.specs.ConfPairs.{Alternative, count_of}
+use Rattle.conf_model.specs.ConfNames.{TypeLine, NamedLine, File, macro_named}
+use Rattle.conf_model.specs.ConfFaults.{first_told, RolePair, pairs_of, is_too_deep, line_before, is_no_name, is_no_declared, names_badly, stood_before, bound_names, stands_twice, is_unknown, is_unheld, declared_names, kinds_lead, names_of, of_types, of_named, are_past, is_shapeless, is_binary, agrees, first_line, firsts, are_arguments, has_kinds, keyed_value, values_badly, is_values, is_attribute, word_of, type_fault, relation_fault, overlap_fault, attribute_fault, macro_fault}
 
 -- where no test tells, each is false
 pub untold : (tests : List (Bool × ConfWhat)) → first_told tests ≡ None → Each (λ test. test.0 ≡ false) tests

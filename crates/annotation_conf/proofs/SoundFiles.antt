@@ -3,10 +3,10 @@ use Rattle.std.proofs.Common.{◌≡◌, ℕ, ◌+◌, ◌<◌, ◌≤◌, ◌==
 use Rattle.std.specs.List.{AllByRecursion as Each, list_any, cons_option}
 use Rattle.std.specs.Str.{skip_leading_whitespace}
 use Rattle.std.proofs.lemmas.Bool.{cond-true, cond-false, not-true}
-use Rattle.annotation_conf.specs.ConfLines.{Section, Entities, Relations, Events, Attributes, Within, Content, Line}
-use Rattle.annotation_conf.specs.ConfNames.{TypeLine, NamedLine, File, content_of, section_lines, type_line, named_line, is_overlap, file_of_lines}
-use Rattle.annotation_conf.specs.ConfFaults.{pairs_of, is_shapeless, fault_at, content_fault, type_fault, relation_fault, overlap_fault, attribute_fault}
-use Rattle.annotation_conf.specs.ConfOf.{first_fault}
+use Rattle.conf_model.specs.ConfLines.{Section, Entities, Relations, Events, Attributes, Within, Content, Line}
+use Rattle.conf_model.specs.ConfNames.{TypeLine, NamedLine, File, content_of, section_lines, type_line, named_line, is_overlap, file_of_lines}
+use Rattle.conf_model.specs.ConfFaults.{pairs_of, is_shapeless, fault_at, content_fault, type_fault, relation_fault, overlap_fault, attribute_fault}
+use Rattle.conf_model.specs.ConfOf.{first_fault}
 use Rattle.annotation_conf.proofs.SoundLists.{Each-filter, each_weaker, each_both, each_passes}
 use Rattle.annotation_conf.proofs.SoundLines.{AreNumbered, each_faultless, each_line, finds_by_number, finds_in_parts, is_read, numbers_from, number_read}
 use Rattle.annotation_conf.proofs.SoundFaults.{KeepsType, KeepsRelation, KeepsOverlap, KeepsAttribute, keeps_type, keeps_relation, keeps_overlap, keeps_attribute}

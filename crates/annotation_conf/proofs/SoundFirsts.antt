@@ -3,8 +3,8 @@ use Rattle.std.proofs.Common.{◌≡◌, ℕ, ◌<◌, ◌||◌, ◌&&◌, Bool,
 use Rattle.std.specs.List.{AllByRecursion as Each, list_any}
 use Rattle.std.proofs.lemmas.Bool.{or_left, or_right, or_from, le-ltb, lt-ltb, cases_Bool, cond-true, not-true}
 use Rattle.std.proofs.lemmas.List.Folds.{list_any-append}
-use Rattle.annotation_conf.specs.ConfNames.{NamedLine}
-use Rattle.annotation_conf.specs.ConfFaults.{Declared, of_named, names_of, stood_before, stands_twice, is_among, firsts}
+use Rattle.conf_model.specs.ConfNames.{NamedLine}
+use Rattle.conf_model.specs.ConfFaults.{Declared, of_named, names_of, stood_before, stands_twice, is_among, firsts}
 use Rattle.annotation_conf.proofs.SoundLists.{each_weaker, Each-map, Each-filter, each_of_map, each_fails, each_passes, none_passes, map-map}
 use Rattle.annotation_conf.proofs.SoundFiles.{Ascend, Ascend-filter}
 use Rattle.annotation_conf.proofs.SoundNames.{differ_once, same_bytes, bytes_same, bytes_differ}

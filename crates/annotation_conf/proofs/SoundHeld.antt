@@ -4,13 +4,14 @@ use Rattle.std.specs.List.{range_with_len}
 use Rattle.std.specs.Option.{option_map_or}
 use Rattle.std.proofs.lemmas.Bool.{false_from_ne_true, true≢false}
 use Rattle.std.proofs.lemmas.List.Folds.{list_any-append}
-use Rattle.annotation_conf.specs.ConfPairs.{Alternative, Named}
-use Rattle.annotation_conf.specs.ConfNames.{Holding, File, none_held, both_held, one_held, all_held}
-use Rattle.annotation_conf.specs.ConfFaults.{is_among, of_named, bound_names, names_of, firsts}
-use Rattle.annotation_conf.specs.ConfOf.{places_of, resolved}
-use Rattle.annotation_conf.specs.ConfText.{type_name_at, relation_name_at, has_type_named, named_apart}
-use Rattle.annotation_conf.specs.Configurations.{Alternatives, Configuration}
-use Rattle.annotation_conf.specs.Sound.{AreTargets, named_names}
+use Rattle.conf_model.specs.ConfPairs.{Alternative, Named}
+use Rattle.conf_model.specs.ConfNames.{Holding, File, none_held, both_held, one_held, all_held}
+use Rattle.conf_model.specs.ConfFaults.{is_among, of_named, bound_names, names_of, firsts}
+use Rattle.conf_model.specs.ConfOf.{places_of, resolved}
+use Rattle.conf_model.specs.ConfText.{type_name_at, relation_name_at, has_type_named, named_apart}
+use Rattle.conf_model.specs.Configurations.{Configuration}
+use Rattle.conf_model.specs.declared.alternatives.Alternatives.{Alternatives}
+use Rattle.conf_model.specs.Sound.{AreTargets, named_names}
 use Rattle.annotation_conf.proofs.FaultLists.{list_any_map}
 use Rattle.annotation_conf.proofs.SoundNames.{same_bytes}
 use Rattle.annotation_conf.proofs.Written.{held_where, written_alternatives}

@@ -4,9 +4,9 @@ use Rattle.std.specs.Option.{option_map_or, option_or}
 use Rattle.std.specs.List.{AllByRecursion as Each, list_any}
 use Rattle.std.proofs.lemmas.Bool.{or_parts, or_from, or_right, not-false, true≢false, lt-ltb}
 use Rattle.std.proofs.lemmas.Option.{none-some, same_Some}
-use Rattle.annotation_conf.specs.ConfPairs.{Alternative, Named, Held}
-use Rattle.annotation_conf.specs.ConfNames.{Holding, MacroLine, none_held, built_in, macro_named, both_held, one_held, all_held}
-use Rattle.annotation_conf.specs.ConfFaults.{is_among, is_unknown, is_unheld}
+use Rattle.conf_model.specs.ConfPairs.{Alternative, Named, Held}
+use Rattle.conf_model.specs.ConfNames.{Holding, MacroLine, none_held, built_in, macro_named, both_held, one_held, all_held}
+use Rattle.conf_model.specs.ConfFaults.{is_among, is_unknown, is_unheld}
 use Rattle.annotation_conf.proofs.SoundLists.{Each-append, each_both, each_fails}
 
 -- something is held

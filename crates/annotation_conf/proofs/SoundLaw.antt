@@ -6,12 +6,13 @@ use Rattle.std.proofs.lemmas.Bool.{or_parts, not-false, cond-true}
 use Rattle.std.proofs.lemmas.List.{length-map, take_at}
 use Rattle.std.proofs.lemmas.List.Elements.{All-from_recursion}
 use Rattle.type_hierarchy.specs.declared.type_row.TypeRow.{TypeRow}
-use Rattle.annotation_conf.specs.ConfLines.{Before, file_lines}
-use Rattle.annotation_conf.specs.ConfNames.{TypeLine, NamedLine, File, file_of}
-use Rattle.annotation_conf.specs.ConfFaults.{RolePair, Declared, stood_before, pairs_of, is_values, values_badly, is_attribute, is_held, is_no_name, word_of, is_unknown, is_unheld, declared_names, bound_names, of_named, names_of, stands_twice, is_too_deep, line_before, is_shapeless}
-use Rattle.annotation_conf.specs.ConfOf.{rows_from, role_of, attribute_of, resolved, configuration_of, conf_of}
-use Rattle.annotation_conf.specs.Configurations.{AttributeType, Configuration}
-use Rattle.annotation_conf.specs.Sound.{IsName, IsDeclaredName, AreTargets, AreRoles, IsRelation, IsOverlap, IsAttribute, IsSound, entity_lines, steps_down}
+use Rattle.conf_model.specs.ConfLines.{Before, file_lines}
+use Rattle.conf_model.specs.ConfNames.{TypeLine, NamedLine, File, file_of}
+use Rattle.conf_model.specs.ConfFaults.{RolePair, Declared, stood_before, pairs_of, is_values, values_badly, is_attribute, is_held, is_no_name, word_of, is_unknown, is_unheld, declared_names, bound_names, of_named, names_of, stands_twice, is_too_deep, line_before, is_shapeless}
+use Rattle.conf_model.specs.ConfOf.{rows_from, role_of, attribute_of, resolved, configuration_of, conf_of}
+use Rattle.conf_model.specs.Configurations.{Configuration}
+use Rattle.conf_model.specs.declared.attribute_type.AttributeType.{AttributeType}
+use Rattle.conf_model.specs.Sound.{IsName, IsDeclaredName, AreTargets, AreRoles, IsRelation, IsOverlap, IsAttribute, IsSound, entity_lines, steps_down}
 use Rattle.annotation_conf.proofs.SoundLists.{Each-append, Each-map, Each-filter, each_weaker, each_both, each_fails, each_passes, each_of_map, map-map}
 use Rattle.annotation_conf.proofs.SoundLines.{AreNumbered-lines_from}
 use Rattle.annotation_conf.proofs.SoundChoices.{IsClean, is_clean, finds_both, targets_keep, relation_names_are}

@@ -5,12 +5,12 @@ use Rattle.std.specs.List.{AllByRecursion as Each, cons_option}
 use Rattle.std.proofs.lemmas.Bool.{false≢true, eq-eqb, ne_eqb}
 use Rattle.std.proofs.lemmas.Option.{cond_some, none-some}
 use Rattle.std.proofs.lemmas.List.Folds.{find-append}
-use Rattle.annotation_conf.specs.declared.conf_fault.ConfWhat.{ConfWhat}
-use Rattle.annotation_conf.specs.ConfLines.{Section, Entities, Relations, Events, Attributes, Place, Within, Kind, Content, Line, lines_from}
-use Rattle.annotation_conf.specs.ConfNames.{is_section, content_of, section_lines}
-use Rattle.annotation_conf.specs.ConfOf.{first_fault, Fault}
-use Rattle.annotation_conf.specs.ConfFaults.{fault_at}
-use Rattle.annotation_conf.specs.ConfNames.{File}
+use Rattle.conf_model.specs.declared.conf_fault.ConfWhat.{ConfWhat}
+use Rattle.conf_model.specs.ConfLines.{Section, Entities, Relations, Events, Attributes, Place, Within, Kind, Content, Line, lines_from}
+use Rattle.conf_model.specs.ConfNames.{is_section, content_of, section_lines}
+use Rattle.conf_model.specs.ConfOf.{first_fault, Fault}
+use Rattle.conf_model.specs.ConfFaults.{fault_at}
+use Rattle.conf_model.specs.ConfNames.{File}
 use Rattle.annotation_conf.proofs.SoundLists.{Each-append, each_weaker, find-first, find-filter}
 
 -- lines that are numbered from a number on

@@ -4,10 +4,10 @@ use Rattle.std.specs.List.{AllByRecursion as Each, list_any, slice_split}
 use Rattle.std.proofs.lemmas.Bool.{lt-ltb, le-ltb}
 use Rattle.std.proofs.lemmas.List.{length-map}
 use Rattle.std.proofs.lemmas.List.Splits.{length-slice_split}
-use Rattle.annotation_conf.specs.ConfLines.{Place, Kind, Skipped, Header, Macro, Content, Line}
-use Rattle.annotation_conf.specs.ConfPairs.{alternative_of, alternatives_of}
-use Rattle.annotation_conf.specs.ConfNames.{MacroLine, File, all_held, macro_at, macros_from}
-use Rattle.annotation_conf.specs.ConfFaults.{is_unknown, is_unheld, declared_names, fault_at, macro_fault}
+use Rattle.conf_model.specs.ConfLines.{Place, Kind, Skipped, Header, Macro, Content, Line}
+use Rattle.conf_model.specs.ConfPairs.{alternative_of, alternatives_of}
+use Rattle.conf_model.specs.ConfNames.{MacroLine, File, all_held, macro_at, macros_from}
+use Rattle.conf_model.specs.ConfFaults.{is_unknown, is_unheld, declared_names, fault_at, macro_fault}
 use Rattle.annotation_conf.proofs.SoundLists.{Each-append, each_weaker}
 use Rattle.annotation_conf.proofs.SoundLines.{AreNumbered}
 use Rattle.annotation_conf.proofs.SoundFaults.{keeps_macro}

@@ -7,9 +7,9 @@ use Rattle.std.proofs.lemmas.Bool.{and_parts, and_from, or_left, ltb-true, lt-lt
 use Rattle.std.proofs.lemmas.Option.{none-some, same_Some}
 use Rattle.std.proofs.lemmas.Str.Parse.{IsNumeralModel, numerals_by_value, tells_all_ascii_digits, digits_value_short}
 use Rattle.mark_base.specs.AnnIds.{is_canonical}
-use Rattle.annotation_conf.specs.ConfLines.{is_enclosed, enclosed}
-use Rattle.annotation_conf.specs.ConfPairs.{Count, number_of, range_of, count_of}
-use Rattle.annotation_conf.specs.Sound.{has_mark}
+use Rattle.conf_model.specs.ConfLines.{is_enclosed, enclosed}
+use Rattle.conf_model.specs.ConfPairs.{Count, number_of, range_of, count_of}
+use Rattle.conf_model.specs.Sound.{has_mark}
 
 pub own : IsNumeralModel (λ ds. all_ascii_digits ds ≡ true) (digits_value 10)
 own = numerals_by_value (λ ds. all_ascii_digits ds ≡ true) tells_all_ascii_digits

@@ -4,7 +4,7 @@ use Rattle.std.specs.List.{AllByRecursion as Each}
 use Rattle.std.proofs.lemmas.Bool.{or_from, lt-ltb, le-leb, ltb-false, cases_order, false_from_ne_true, true≢false}
 use Rattle.std.proofs.lemmas.Option.{none-some, same_Some}
 use Rattle.std.proofs.lemmas.Slice.Eq.{bytes_eq-Decides}
-use Rattle.annotation_conf.specs.ConfFaults.{Declared, stood_before, are_past, is_among, stands_twice}
+use Rattle.conf_model.specs.ConfFaults.{Declared, stood_before, are_past, is_among, stands_twice}
 use Rattle.annotation_conf.proofs.SoundLists.{each_weaker, each_both, Each-map, each_fails, none_passes, highest, highest_above, highest_all, highest_one, count_all}
 
 pub same_bytes : (xs ys : List ℕ) → bytes_eq xs ys ≡ true → xs ≡ ys

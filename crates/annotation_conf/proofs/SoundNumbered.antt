@@ -4,7 +4,7 @@ use Rattle.std.specs.Option.{option_map_or}
 use Rattle.std.specs.List.{AllByRecursion as Each, enumerate_from}
 use Rattle.std.proofs.lemmas.List.{drop_more, drop_all, length-drop}
 use Rattle.std.proofs.lemmas.Option.{slice_get-get_or}
-use Rattle.annotation_conf.specs.Configurations.{Role}
+use Rattle.conf_model.specs.declared.role.Role.{Role}
 use Rattle.annotation_conf.proofs.SoundFiles.{Ascend}
 use Rattle.annotation_conf.proofs.Written.{numbered}
 

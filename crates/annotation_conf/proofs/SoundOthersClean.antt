@@ -6,14 +6,18 @@ use Rattle.std.proofs.lemmas.Bool.{or_from, or_left, or_right, or_cases, and_fro
 use Rattle.std.proofs.lemmas.List.{length-map, map-append}
 use Rattle.std.proofs.lemmas.List.Elements.{recursion_from_All}
 use Rattle.std.proofs.lemmas.List.Folds.{list_any-append}
-use Rattle.annotation_conf.specs.declared.conf_fault.ConfWhat.{ConfWhat}
-use Rattle.annotation_conf.specs.declared.conf_fault.ConfWhat.TheVariants.{BadName, NameTwice, BadCount, BadArgument, UnknownTypeNamed, UnknownMacro, TooManyTypes}
-use Rattle.annotation_conf.specs.ConfPairs.{Piece, Pair, Keyed, Alternative, Named, count_of}
-use Rattle.annotation_conf.specs.ConfNames.{NamedLine, is_overlap}
-use Rattle.annotation_conf.specs.ConfFaults.{RolePair, Declared, pairs_of, is_no_name, is_no_declared, names_badly, word_of, is_held, stood_before, bound_names, of_named, names_of, stands_twice, is_among, declared_names, kinds_lead, is_unknown, is_unheld, are_past, is_shapeless, is_binary, agrees, same_words, same_truth, first_line, firsts, is_equivalence_line, are_arguments, are_kinds, has_kinds, keyed_value, values_badly, is_values, is_attribute, relation_fault, overlap_fault, attribute_fault}
-use Rattle.annotation_conf.specs.ConfText.{type_name_at, relation_name_at}
-use Rattle.annotation_conf.specs.Configurations.{Arguments, RelationType, AttributeType, Overlap, Configuration}
-use Rattle.annotation_conf.specs.Sound.{IsName, IsDeclaredName, AreArguments, IsRelation, IsAttribute, IsOverlap, IsSound}
+use Rattle.conf_model.specs.declared.conf_fault.ConfWhat.{ConfWhat}
+use Rattle.conf_model.specs.declared.conf_fault.ConfWhat.TheVariants.{BadName, NameTwice, BadCount, BadArgument, UnknownTypeNamed, UnknownMacro, TooManyTypes}
+use Rattle.conf_model.specs.ConfPairs.{Piece, Pair, Keyed, Alternative, Named, count_of}
+use Rattle.conf_model.specs.ConfNames.{NamedLine, is_overlap}
+use Rattle.conf_model.specs.ConfFaults.{RolePair, Declared, pairs_of, is_no_name, is_no_declared, names_badly, word_of, is_held, stood_before, bound_names, of_named, names_of, stands_twice, is_among, declared_names, kinds_lead, is_unknown, is_unheld, are_past, is_shapeless, is_binary, agrees, same_words, same_truth, first_line, firsts, is_equivalence_line, are_arguments, are_kinds, has_kinds, keyed_value, values_badly, is_values, is_attribute, relation_fault, overlap_fault, attribute_fault}
+use Rattle.conf_model.specs.ConfText.{type_name_at, relation_name_at}
+use Rattle.conf_model.specs.Configurations.{Configuration}
+use Rattle.conf_model.specs.declared.relation_type.Arguments.{Arguments}
+use Rattle.conf_model.specs.declared.relation_type.RelationType.{RelationType}
+use Rattle.conf_model.specs.declared.attribute_type.AttributeType.{AttributeType}
+use Rattle.conf_model.specs.declared.overlap_line.Overlap.{Overlap}
+use Rattle.conf_model.specs.Sound.{IsName, IsDeclaredName, AreArguments, IsRelation, IsAttribute, IsOverlap, IsSound}
 use Rattle.annotation_conf.proofs.SoundLists.{Each-append, Each-map, each_weaker, each_both, each_always, each_of_map, none_passes}
 use Rattle.annotation_conf.proofs.SoundAgain.{kinds_of, attribute_pairs_of, values_piece}
 use Rattle.annotation_conf.proofs.SoundFirsts.{names_of_named}

@@ -6,8 +6,8 @@ use Rattle.std.proofs.lemmas.Bool.{or_cases, or_left, or_right, true≢false, ca
 use Rattle.std.proofs.lemmas.Option.{slice_get_within}
 use Rattle.std.proofs.lemmas.List.Elements.{filter_agree}
 use Rattle.std.proofs.lemmas.List.Folds.{list_any-append}
-use Rattle.annotation_conf.specs.ConfFaults.{is_among}
-use Rattle.annotation_conf.specs.ConfOf.{places_of}
+use Rattle.conf_model.specs.ConfFaults.{is_among}
+use Rattle.conf_model.specs.ConfOf.{places_of}
 use Rattle.annotation_conf.proofs.SoundLists.{each_weaker, each_passes, Each-append, Each-map}
 use Rattle.annotation_conf.proofs.SoundNames.{same_bytes, bytes_same}
 

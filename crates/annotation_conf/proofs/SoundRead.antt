@@ -8,11 +8,13 @@ use Rattle.std.proofs.lemmas.Bool.{ltb-false, true≢false, not-false, and_parts
 use Rattle.std.proofs.lemmas.List.{length-map, length-append, append-nil}
 use Rattle.std.proofs.lemmas.List.Elements.{All-from_recursion}
 use Rattle.type_hierarchy.specs.TypeFaults.{fault_of}
-use Rattle.annotation_conf.specs.ConfLines.{file_lines, Before}
-use Rattle.annotation_conf.specs.ConfNames.{TypeLine, File, file_of}
-use Rattle.annotation_conf.specs.ConfFaults.{RolePair, pairs_of, is_values, is_attribute, is_shapeless, word_of}
-use Rattle.annotation_conf.specs.ConfOf.{Fault, role_of, attribute_of, configuration_of, first_fault, missing_fault, answer_of, conf_of}
-use Rattle.annotation_conf.specs.Configurations.{Role, AttributeType, Configuration}
+use Rattle.conf_model.specs.ConfLines.{file_lines, Before}
+use Rattle.conf_model.specs.ConfNames.{TypeLine, File, file_of}
+use Rattle.conf_model.specs.ConfFaults.{RolePair, pairs_of, is_values, is_attribute, is_shapeless, word_of}
+use Rattle.conf_model.specs.ConfOf.{Fault, role_of, attribute_of, configuration_of, first_fault, missing_fault, answer_of, conf_of}
+use Rattle.conf_model.specs.Configurations.{Configuration}
+use Rattle.conf_model.specs.declared.role.Role.{Role}
+use Rattle.conf_model.specs.declared.attribute_type.AttributeType.{AttributeType}
 use Rattle.annotation_conf.proofs.SoundLists.{Each-append, Each-map, each_always, each_weaker, each_fails}
 use Rattle.annotation_conf.proofs.SoundLines.{AreNumbered-lines_from}
 use Rattle.annotation_conf.proofs.SoundFaults.{KeepsType, KeepsAttribute}

@@ -5,12 +5,15 @@ use Rattle.std.specs.List.{AllByRecursion as Each, list_any}
 use Rattle.std.proofs.lemmas.Bool.{or_parts, or_left, or_right, cond-true, cond-false}
 use Rattle.std.proofs.lemmas.List.Elements.{filter-append, recursion_from_All}
 use Rattle.std.proofs.lemmas.List.Folds.{list_any-append}
-use Rattle.annotation_conf.specs.ConfPairs.{Piece, Keyed}
-use Rattle.annotation_conf.specs.ConfNames.{NamedLine}
-use Rattle.annotation_conf.specs.ConfFaults.{pairs_of, of_named, names_of, firsts, is_among, stands_twice, stood_before, is_equivalence_line, keyed_value}
-use Rattle.annotation_conf.specs.ConfOf.{arguments_of, relation_of, configuration_of}
-use Rattle.annotation_conf.specs.Configurations.{Alternatives, Arguments, RelationType, Configuration}
-use Rattle.annotation_conf.specs.Sound.{AreArguments, IsRelation, IsSound}
+use Rattle.conf_model.specs.ConfPairs.{Piece, Keyed}
+use Rattle.conf_model.specs.ConfNames.{NamedLine}
+use Rattle.conf_model.specs.ConfFaults.{pairs_of, of_named, names_of, firsts, is_among, stands_twice, stood_before, is_equivalence_line, keyed_value}
+use Rattle.conf_model.specs.ConfOf.{arguments_of, relation_of, configuration_of}
+use Rattle.conf_model.specs.Configurations.{Configuration}
+use Rattle.conf_model.specs.declared.alternatives.Alternatives.{Alternatives}
+use Rattle.conf_model.specs.declared.relation_type.Arguments.{Arguments}
+use Rattle.conf_model.specs.declared.relation_type.RelationType.{RelationType}
+use Rattle.conf_model.specs.Sound.{AreArguments, IsRelation, IsSound}
 use Rattle.annotation_conf.proofs.SoundLists.{Each-append, Each-map, each_weaker, each_both, each_always, each_fails, each_of_map, each_right, none_passes}
 use Rattle.annotation_conf.proofs.SoundFiles.{Ascend}
 use Rattle.annotation_conf.proofs.SoundFirsts.{is_first, stood_is, names_of_named}

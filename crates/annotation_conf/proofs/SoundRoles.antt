@@ -6,12 +6,13 @@ use Rattle.std.proofs.lemmas.Bool.{or_parts, or_left, or_right, or_cases, and_pa
 use Rattle.std.proofs.lemmas.List.{length-map}
 use Rattle.std.proofs.lemmas.List.Splits.{length-slice_split}
 use Rattle.std.proofs.lemmas.List.Elements.{All-from_recursion}
-use Rattle.annotation_conf.specs.ConfPairs.{Piece, count_of}
-use Rattle.annotation_conf.specs.ConfNames.{TypeLine, NamedLine, File}
-use Rattle.annotation_conf.specs.ConfFaults.{RolePair, pairs_of, names_badly, is_no_name, word_of, is_unknown, is_unheld, declared_names, bound_names, names_of, is_binary, are_arguments, is_kind, has_kinds, keyed_value, is_among, stands_twice, is_shapeless, firsts}
-use Rattle.annotation_conf.specs.ConfOf.{role_of, role_at, arguments_of, relation_of, overlap_of, has_kind, resolved, configuration_of}
-use Rattle.annotation_conf.specs.Configurations.{Role, Configuration}
-use Rattle.annotation_conf.specs.Sound.{IsName, AreTargets, IsRole, AreRoles, AreArguments, IsRelation, IsOverlap}
+use Rattle.conf_model.specs.ConfPairs.{Piece, count_of}
+use Rattle.conf_model.specs.ConfNames.{TypeLine, NamedLine, File}
+use Rattle.conf_model.specs.ConfFaults.{RolePair, pairs_of, names_badly, is_no_name, word_of, is_unknown, is_unheld, declared_names, bound_names, names_of, is_binary, are_arguments, is_kind, has_kinds, keyed_value, is_among, stands_twice, is_shapeless, firsts}
+use Rattle.conf_model.specs.ConfOf.{role_of, role_at, arguments_of, relation_of, overlap_of, has_kind, resolved, configuration_of}
+use Rattle.conf_model.specs.Configurations.{Configuration}
+use Rattle.conf_model.specs.declared.role.Role.{Role}
+use Rattle.conf_model.specs.Sound.{IsName, AreTargets, IsRole, AreRoles, AreArguments, IsRelation, IsOverlap}
 use Rattle.annotation_conf.proofs.SoundLists.{Each-append, Each-map, Each-filter, each_always, each_both, each_fails, map-map}
 use Rattle.annotation_conf.proofs.SoundChoices.{IsClean, FindsKnown, finds_types, targets_keep}
 use Rattle.annotation_conf.proofs.SoundFaults.{AreKnown, KeepsType, KeepsRelation, KeepsOverlap}

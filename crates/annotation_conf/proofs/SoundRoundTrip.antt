@@ -4,15 +4,15 @@ use Rattle.std.specs.Option.{option_map_or, option_or}
 use Rattle.std.specs.List.{AllByRecursion as Each, list_any}
 use Rattle.std.specs.Str.Lossy.{utf8_valid_len}
 use Rattle.std.proofs.lemmas.Bool.{le-ltb, and_left, and_right, cond-false}
-use Rattle.annotation_conf.specs.declared.conf_fault.ConfWhat.{ConfWhat}
-use Rattle.annotation_conf.specs.declared.conf_fault.ConfWhat.TheVariants.{SectionTwice}
-use Rattle.annotation_conf.specs.ConfLines.{Section, Entities, Relations, Events, Attributes, Line}
-use Rattle.annotation_conf.specs.ConfNames.{TypeLine, NamedLine, File, is_section, file_of}
-use Rattle.annotation_conf.specs.ConfFaults.{pairs_of, is_shapeless, type_fault, attribute_fault, content_fault, fault_at, is_header, opened_before}
-use Rattle.annotation_conf.specs.ConfOf.{Fault, first_fault, missing_fault, answer_of, conf_of}
-use Rattle.annotation_conf.specs.ConfText.{conf_text}
-use Rattle.annotation_conf.specs.Configurations.{Configuration}
-use Rattle.annotation_conf.specs.Sound.{IsSound}
+use Rattle.conf_model.specs.declared.conf_fault.ConfWhat.{ConfWhat}
+use Rattle.conf_model.specs.declared.conf_fault.ConfWhat.TheVariants.{SectionTwice}
+use Rattle.conf_model.specs.ConfLines.{Section, Entities, Relations, Events, Attributes, Line}
+use Rattle.conf_model.specs.ConfNames.{TypeLine, NamedLine, File, is_section, file_of}
+use Rattle.conf_model.specs.ConfFaults.{pairs_of, is_shapeless, type_fault, attribute_fault, content_fault, fault_at, is_header, opened_before}
+use Rattle.conf_model.specs.ConfOf.{Fault, first_fault, missing_fault, answer_of, conf_of}
+use Rattle.conf_model.specs.ConfText.{conf_text}
+use Rattle.conf_model.specs.Configurations.{Configuration}
+use Rattle.conf_model.specs.Sound.{IsSound}
 use Rattle.annotation_conf.proofs.SoundLists.{Each-append, each_always, none_passes}
 use Rattle.annotation_conf.proofs.SoundAgain.{configuration_again}
 use Rattle.annotation_conf.proofs.SoundLaw.{sound}

@@ -12,9 +12,9 @@ use Rattle.type_hierarchy.specs.declared.type_row.TypeRow.{TypeRow}
 use Rattle.type_hierarchy.specs.declared.types_fault.TypesFault.TheVariants.{NameTwice, BadParent, TooMany}
 use Rattle.type_hierarchy.specs.TypeTrees.{is_named, parent_of}
 use Rattle.type_hierarchy.specs.TypeFaults.{first_place, is_twice, is_misplaced, name_twice, bad_parent, are_too_many, fault_of}
-use Rattle.annotation_conf.specs.ConfNames.{TypeLine}
-use Rattle.annotation_conf.specs.ConfFaults.{is_among, stands_twice}
-use Rattle.annotation_conf.specs.ConfOf.{last_at, rows_from}
+use Rattle.conf_model.specs.ConfNames.{TypeLine}
+use Rattle.conf_model.specs.ConfFaults.{is_among, stands_twice}
+use Rattle.conf_model.specs.ConfOf.{last_at, rows_from}
 use Rattle.annotation_conf.proofs.SoundLists.{each_fails, each_of_map}
 use Rattle.annotation_conf.proofs.SoundNames.{each_at}
 

@@ -5,9 +5,9 @@ use Rattle.std.proofs.lemmas.List.{length-map, map-append, length-append}
 use Rattle.std.proofs.lemmas.List.Sums.{sum_by-append, length-filter}
 use Rattle.type_hierarchy.specs.declared.type_row.TypeRow.{TypeRow}
 use Rattle.type_hierarchy.specs.TypeFaults.{fault_of}
-use Rattle.annotation_conf.specs.ConfNames.{TypeLine, NamedLine, File}
-use Rattle.annotation_conf.specs.ConfFaults.{Declared, of_types, of_named, bound_names, names_of, stood_before, are_past, is_no_declared, stands_twice, firsts, pairs_of, is_shapeless}
-use Rattle.annotation_conf.specs.ConfOf.{rows_from, relation_of, attribute_of, configuration_of}
+use Rattle.conf_model.specs.ConfNames.{TypeLine, NamedLine, File}
+use Rattle.conf_model.specs.ConfFaults.{Declared, of_types, of_named, bound_names, names_of, stood_before, are_past, is_no_declared, stands_twice, firsts, pairs_of, is_shapeless}
+use Rattle.conf_model.specs.ConfOf.{rows_from, relation_of, attribute_of, configuration_of}
 use Rattle.annotation_conf.proofs.SoundLists.{Each-append, Each-map, Each-filter, each_of_map, each_weaker, map-map}
 use Rattle.annotation_conf.proofs.SoundFaults.{KeepsType, KeepsRelation, KeepsAttribute}
 use Rattle.annotation_conf.proofs.SoundFiles.{Ascend, IsApart, KeepsAll}

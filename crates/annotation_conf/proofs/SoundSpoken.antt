@@ -6,12 +6,13 @@ use Rattle.std.specs.Str.{chars}
 use Rattle.std.proofs.lemmas.Bool.{or_parts, or_left, or_right, not_from_true, true≢false}
 use Rattle.std.proofs.lemmas.List.Elements.{recursion_from_All}
 use Rattle.mark_base.specs.Names.{name_fault}
-use Rattle.annotation_conf.specs.ConfPairs.{Alternative, Named, Held}
-use Rattle.annotation_conf.specs.ConfFaults.{is_among, is_unknown, is_unheld, is_no_name, is_no_declared, word_of}
-use Rattle.annotation_conf.specs.ConfLines.{is_hyphens}
-use Rattle.annotation_conf.specs.ConfText.{type_name_at, relation_name_at, has_type_named, named_apart}
-use Rattle.annotation_conf.specs.Configurations.{Alternatives, Configuration}
-use Rattle.annotation_conf.specs.Sound.{IsDeclaredName, AreTargets, IsRelation, IsSound}
+use Rattle.conf_model.specs.ConfPairs.{Alternative, Named, Held}
+use Rattle.conf_model.specs.ConfFaults.{is_among, is_unknown, is_unheld, is_no_name, is_no_declared, word_of}
+use Rattle.conf_model.specs.ConfLines.{is_hyphens}
+use Rattle.conf_model.specs.ConfText.{type_name_at, relation_name_at, has_type_named, named_apart}
+use Rattle.conf_model.specs.Configurations.{Configuration}
+use Rattle.conf_model.specs.declared.alternatives.Alternatives.{Alternatives}
+use Rattle.conf_model.specs.Sound.{IsDeclaredName, AreTargets, IsRelation, IsSound}
 use Rattle.annotation_conf.proofs.SoundLists.{Each-append, Each-map, Each-filter, each_weaker, none_passes}
 use Rattle.annotation_conf.proofs.SoundNames.{bytes_same}
 use Rattle.annotation_conf.proofs.Written.{held_where, written_alternatives}

@@ -7,10 +7,10 @@ use Rattle.std.proofs.lemmas.Option.{none-some, same_Some, slice_get_within}
 use Rattle.std.proofs.lemmas.List.{length_push}
 use Rattle.mark_base.specs.declared.table_places.TypeId.{TypeId}
 use Rattle.type_hierarchy.specs.declared.type_row.TypeRow.{TypeRow}
-use Rattle.annotation_conf.specs.ConfNames.{TypeLine}
-use Rattle.annotation_conf.specs.ConfFaults.{is_too_deep, last_of, line_before}
-use Rattle.annotation_conf.specs.ConfOf.{last_at, rows_from}
-use Rattle.annotation_conf.specs.Sound.{steps_down}
+use Rattle.conf_model.specs.ConfNames.{TypeLine}
+use Rattle.conf_model.specs.ConfFaults.{is_too_deep, last_of, line_before}
+use Rattle.conf_model.specs.ConfOf.{last_at, rows_from}
+use Rattle.conf_model.specs.Sound.{steps_down}
 use Rattle.annotation_conf.proofs.SoundLists.{each_weaker, each_right}
 use Rattle.annotation_conf.proofs.SoundFiles.{Ascend}
 

@@ -8,7 +8,7 @@ use Rattle.std.proofs.lemmas.Bool.{and_parts, and_from, cases_Bool, ltb-false, e
 use Rattle.std.proofs.lemmas.List.Splits.{length-slice_split}
 use Rattle.std.proofs.lemmas.Str.{IsUtf8-nil, IsUtf8-append, IsUtf8-from_is_utf8, IsUtf8-take, IsCharBoundary-before_ascii, encode_ascii, scalars-chars}
 use lib.Utf8.{scalar, scalars, encode, encodes}
-use Rattle.annotation_conf.specs.ConfLines.{Place, Skipped, Header, Macro, Content, Line, is_skipped, is_enclosed, enclosed, section_named, is_macro, kind_of, lines_from}
+use Rattle.conf_model.specs.ConfLines.{Place, Skipped, Header, Macro, Content, Line, is_skipped, is_enclosed, enclosed, section_named, is_macro, kind_of, lines_from}
 
 -- bytes that are UTF-8 up to their end
 valid_le : (bs : List ℕ) (n : ℕ) → valid_len_up_to bs n ≤ n

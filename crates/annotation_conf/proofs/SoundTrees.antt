@@ -9,10 +9,10 @@ use Rattle.std.proofs.lemmas.List.Elements.{filter-append}
 use Rattle.mark_base.specs.declared.table_places.TypeId.{TypeId}
 use Rattle.type_hierarchy.specs.declared.type_row.TypeRow.{TypeRow}
 use Rattle.type_hierarchy.specs.TypeTrees.{parent_of}
-use Rattle.annotation_conf.specs.ConfNames.{TypeLine}
-use Rattle.annotation_conf.specs.ConfOf.{last_at, rows_from}
-use Rattle.annotation_conf.specs.ConfText.{depth_by}
-use Rattle.annotation_conf.specs.Sound.{bare_line, entity_lines, event_lines, steps_down}
+use Rattle.conf_model.specs.ConfNames.{TypeLine}
+use Rattle.conf_model.specs.ConfOf.{last_at, rows_from}
+use Rattle.conf_model.specs.ConfText.{depth_by}
+use Rattle.conf_model.specs.Sound.{bare_line, entity_lines, event_lines, steps_down}
 use Rattle.annotation_conf.proofs.SoundLists.{each_weaker}
 use Rattle.annotation_conf.proofs.SoundRows.{length-rows_from}
 use Rattle.annotation_conf.proofs.SoundSteps.{HasParent, Reaches, parents_from, slice_get-right, filter_front}

@@ -7,12 +7,14 @@ use Rattle.std.proofs.lemmas.List.{length-map, length-append, length-drop}
 use Rattle.std.proofs.lemmas.List.Elements.{recursion_from_All}
 use Rattle.std.proofs.lemmas.List.FromFn.{length-enumerate_from}
 use Rattle.type_hierarchy.specs.declared.type_row.TypeRow.{TypeRow}
-use Rattle.annotation_conf.specs.ConfPairs.{Count}
-use Rattle.annotation_conf.specs.ConfNames.{TypeLine, File}
-use Rattle.annotation_conf.specs.ConfFaults.{pairs_of, bound_names, names_of}
-use Rattle.annotation_conf.specs.ConfOf.{role_of, configuration_of}
-use Rattle.annotation_conf.specs.Configurations.{Alternatives, Role, Configuration}
-use Rattle.annotation_conf.specs.Sound.{bare_line, entity_lines, event_lines, IsRole, AreRoles, IsSound}
+use Rattle.conf_model.specs.ConfPairs.{Count}
+use Rattle.conf_model.specs.ConfNames.{TypeLine, File}
+use Rattle.conf_model.specs.ConfFaults.{pairs_of, bound_names, names_of}
+use Rattle.conf_model.specs.ConfOf.{role_of, configuration_of}
+use Rattle.conf_model.specs.Configurations.{Configuration}
+use Rattle.conf_model.specs.declared.alternatives.Alternatives.{Alternatives}
+use Rattle.conf_model.specs.declared.role.Role.{Role}
+use Rattle.conf_model.specs.Sound.{bare_line, entity_lines, event_lines, IsRole, AreRoles, IsSound}
 use Rattle.annotation_conf.proofs.SoundLists.{each_weaker, each_always, each_passes, map-map}
 use Rattle.annotation_conf.proofs.SoundCounts.{count_again}
 use Rattle.annotation_conf.proofs.SoundHeld.{HasNames, resolved_again}

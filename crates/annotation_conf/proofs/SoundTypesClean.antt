@@ -7,14 +7,15 @@ use Rattle.std.proofs.lemmas.List.{length-map}
 use Rattle.std.proofs.lemmas.List.Elements.{recursion_from_All, All-from_recursion}
 use Rattle.std.proofs.lemmas.List.Sums.{sum_by-append, length-filter}
 use Rattle.type_hierarchy.specs.declared.type_row.TypeRow.{TypeRow}
-use Rattle.annotation_conf.specs.declared.conf_fault.ConfWhat.TheVariants.{BadIndent, BadName, NameTwice, BadCount, BadArgument, UnknownTypeNamed, UnknownMacro, TooManyTypes}
-use Rattle.annotation_conf.specs.ConfPairs.{count_of}
-use Rattle.annotation_conf.specs.ConfNames.{TypeLine}
-use Rattle.annotation_conf.specs.ConfFaults.{RolePair, Declared, pairs_of, is_too_deep, line_before, is_no_name, is_no_declared, names_badly, stood_before, bound_names, stands_twice, declared_names, is_unknown, is_unheld, names_of, of_types, are_past, is_shapeless, word_of, type_fault}
-use Rattle.annotation_conf.specs.ConfOf.{rows_from, configuration_of}
-use Rattle.annotation_conf.specs.ConfText.{mark_text}
-use Rattle.annotation_conf.specs.Configurations.{Role, Configuration}
-use Rattle.annotation_conf.specs.Sound.{IsDeclaredName, IsRole, AreRoles, IsSound, steps_down}
+use Rattle.conf_model.specs.declared.conf_fault.ConfWhat.TheVariants.{BadIndent, BadName, NameTwice, BadCount, BadArgument, UnknownTypeNamed, UnknownMacro, TooManyTypes}
+use Rattle.conf_model.specs.ConfPairs.{count_of}
+use Rattle.conf_model.specs.ConfNames.{TypeLine}
+use Rattle.conf_model.specs.ConfFaults.{RolePair, Declared, pairs_of, is_too_deep, line_before, is_no_name, is_no_declared, names_badly, stood_before, bound_names, stands_twice, declared_names, is_unknown, is_unheld, names_of, of_types, are_past, is_shapeless, word_of, type_fault}
+use Rattle.conf_model.specs.ConfOf.{rows_from, configuration_of}
+use Rattle.conf_model.specs.ConfText.{mark_text}
+use Rattle.conf_model.specs.Configurations.{Configuration}
+use Rattle.conf_model.specs.declared.role.Role.{Role}
+use Rattle.conf_model.specs.Sound.{IsDeclaredName, IsRole, AreRoles, IsSound, steps_down}
 use Rattle.annotation_conf.proofs.SoundLists.{Each-map, Each-filter, each_weaker, each_both, each_always, each_left, each_right, each_of_map, none_passes, map-map}
 use Rattle.annotation_conf.proofs.SoundCounts.{count_again}
 use Rattle.annotation_conf.proofs.SoundNumbered.{Ascend-numbered, Each-numbered}

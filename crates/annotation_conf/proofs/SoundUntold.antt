@@ -10,10 +10,10 @@ use Rattle.type_hierarchy.specs.declared.type_row.TypeRow.{TypeRow}
 use Rattle.type_hierarchy.specs.declared.types_fault.TypesFault.TheVariants.{NameTwice, BadParent, TooMany}
 use Rattle.type_hierarchy.specs.TypeTrees.{is_named}
 use Rattle.type_hierarchy.specs.TypeFaults.{first_place, is_twice, name_twice, bad_parent, are_too_many, fault_of}
-use Rattle.annotation_conf.specs.declared.conf_fault.ConfWhat.{ConfWhat}
-use Rattle.annotation_conf.specs.ConfNames.{TypeLine}
-use Rattle.annotation_conf.specs.ConfFaults.{Declared, first_told, stood_before, are_past, is_among, stands_twice, is_too_deep, last_of, line_before}
-use Rattle.annotation_conf.specs.Sound.{steps_down}
+use Rattle.conf_model.specs.declared.conf_fault.ConfWhat.{ConfWhat}
+use Rattle.conf_model.specs.ConfNames.{TypeLine}
+use Rattle.conf_model.specs.ConfFaults.{Declared, first_told, stood_before, are_past, is_among, stands_twice, is_too_deep, last_of, line_before}
+use Rattle.conf_model.specs.Sound.{steps_down}
 use Rattle.annotation_conf.proofs.SoundLists.{Each-append, Each-map, each_weaker, none_passes}
 use Rattle.annotation_conf.proofs.SoundFiles.{Ascend}
 use Rattle.annotation_conf.proofs.SoundRelationsAgain.{are_apart}

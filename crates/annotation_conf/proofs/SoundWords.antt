@@ -5,10 +5,10 @@ use Rattle.std.specs.Char.{is_whitespace}
 use Rattle.std.specs.Str.{skip_leading_whitespace}
 use Rattle.std.proofs.lemmas.Bool.{and_parts, and_from, cond_both}
 use lib.Utf8.{scalar, scalars}
-use Rattle.annotation_conf.specs.ConfLines.{Section, Entities, Events, Relations, Attributes, Line, is_enclosed, enclosed}
-use Rattle.annotation_conf.specs.ConfPairs.{Alternative, Named, Held, Piece, Shapeless, Keyed, Pair, alternative_of, alternatives_of, begins_mark, piece_of, pieces_of}
-use Rattle.annotation_conf.specs.ConfNames.{TypeLine, NamedLine, File, content_of, section_lines, type_line, named_line, is_overlap, file_of_lines}
-use Rattle.annotation_conf.specs.ConfFaults.{word_of, RolePair, pairs_of}
+use Rattle.conf_model.specs.ConfLines.{Section, Entities, Events, Relations, Attributes, Line, is_enclosed, enclosed}
+use Rattle.conf_model.specs.ConfPairs.{Alternative, Named, Held, Piece, Shapeless, Keyed, Pair, alternative_of, alternatives_of, begins_mark, piece_of, pieces_of}
+use Rattle.conf_model.specs.ConfNames.{TypeLine, NamedLine, File, content_of, section_lines, type_line, named_line, is_overlap, file_of_lines}
+use Rattle.conf_model.specs.ConfFaults.{word_of, RolePair, pairs_of}
 use Rattle.annotation_conf.proofs.SoundLists.{Each-map, each_weaker, Each-filter}
 use Rattle.annotation_conf.proofs.SoundLines.{is_read}
 use Rattle.annotation_conf.proofs.SoundMacros.{alternatives_some}

@@ -2,7 +2,7 @@
 use Rattle.std.proofs.Common.{◌≡◌, ℕ, ◌<◌, List, [], ◌∷◌, ◌++◌, length, drop, get_or, codes, refl, sym, ◌∙◌, ap, append_assoc, arith}
 use Rattle.std.specs.List.{join_with_byte, flat_map}
 use Rattle.std.proofs.lemmas.List.{append-nil}
-use Rattle.annotation_conf.specs.ConfText.{with_commas}
+use Rattle.conf_model.specs.ConfText.{with_commas}
 
 pub joined_marked : (word : List ℕ) (words : List (List ℕ)) → word ++ flat_map (λ w. codes "|" ++ w) words ≡ join_with_byte 124 (word ∷ words)
 joined_marked word [] = append-nil word

@@ -4,12 +4,18 @@ use Rattle.std.specs.Option.{option_map_or}
 use Rattle.std.specs.List.{join_with_byte, flat_map, enumerate_from, AllByRecursion}
 use Rattle.mark_base.specs.Names.{name_fault}
 use Rattle.type_hierarchy.specs.declared.type_row.TypeRow.{TypeRow}
-use Rattle.annotation_conf.specs.ConfLines.{Section, Entities, Relations, Events, Attributes, Within, Header, Content, Line}
-use Rattle.annotation_conf.specs.ConfPairs.{Alternative, Named, Held, Piece, Keyed, Pair}
-use Rattle.annotation_conf.specs.ConfNames.{TypeLine, NamedLine, File}
-use Rattle.annotation_conf.specs.ConfFaults.{is_no_declared}
-use Rattle.annotation_conf.specs.ConfText.{depth_by, with_commas, where_so, type_name_at, relation_name_at, named_apart, mark_text, pair_text, role_text}
-use Rattle.annotation_conf.specs.Configurations.{Alternatives, Role, Arguments, RelationType, AttributeType, Overlap, Configuration}
+use Rattle.conf_model.specs.ConfLines.{Section, Entities, Relations, Events, Attributes, Within, Header, Content, Line}
+use Rattle.conf_model.specs.ConfPairs.{Alternative, Named, Held, Piece, Keyed, Pair}
+use Rattle.conf_model.specs.ConfNames.{TypeLine, NamedLine, File}
+use Rattle.conf_model.specs.ConfFaults.{is_no_declared}
+use Rattle.conf_model.specs.ConfText.{depth_by, with_commas, where_so, type_name_at, relation_name_at, named_apart, mark_text, pair_text, role_text}
+use Rattle.conf_model.specs.Configurations.{Configuration}
+use Rattle.conf_model.specs.declared.alternatives.Alternatives.{Alternatives}
+use Rattle.conf_model.specs.declared.role.Role.{Role}
+use Rattle.conf_model.specs.declared.relation_type.Arguments.{Arguments}
+use Rattle.conf_model.specs.declared.relation_type.RelationType.{RelationType}
+use Rattle.conf_model.specs.declared.attribute_type.AttributeType.{AttributeType}
+use Rattle.conf_model.specs.declared.overlap_line.Overlap.{Overlap}
 
 -- The rows that are written, section by section.
 

@@ -7,10 +7,12 @@ use Rattle.std.specs.Option.{option_map_or}
 use Rattle.std.specs.Str.{NonePass}
 use Rattle.std.specs.List.{list_all, join_with_byte, AllByRecursion, AllZip}
 use Rattle.mark_base.specs.Names.{is_barred}
-use Rattle.annotation_conf.specs.ConfLines.{is_enclosed, enclosed}
-use Rattle.annotation_conf.specs.ConfPairs.{Alternative, Named, Held, alternative_of, alternatives_of}
-use Rattle.annotation_conf.specs.ConfText.{where_so, type_name_at, relation_name_at, alternatives_text, has_type_named, named_apart}
-use Rattle.annotation_conf.specs.Configurations.{Alternatives, RelationType, Configuration}
+use Rattle.conf_model.specs.ConfLines.{is_enclosed, enclosed}
+use Rattle.conf_model.specs.ConfPairs.{Alternative, Named, Held, alternative_of, alternatives_of}
+use Rattle.conf_model.specs.ConfText.{where_so, type_name_at, relation_name_at, alternatives_text, has_type_named, named_apart}
+use Rattle.conf_model.specs.Configurations.{Configuration}
+use Rattle.conf_model.specs.declared.alternatives.Alternatives.{Alternatives}
+use Rattle.conf_model.specs.declared.relation_type.RelationType.{RelationType}
 use Rattle.annotation_conf.proofs.SoundLists.{Each-filter}
 use Rattle.annotation_conf.proofs.Written.{IsWord, IsDeclaredWord, IsSpelledChoice, IsSpelledRelation, IsSpelled, held_where, written_alternatives}
 use Rattle.annotation_conf.proofs.WrittenLists.{none-append, none_less, is_other, split_joined}

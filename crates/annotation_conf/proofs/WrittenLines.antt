@@ -7,9 +7,9 @@ use Rattle.std.specs.Str.{chars, NonePass, skip_leading_whitespace}
 use Rattle.std.specs.Char.{is_whitespace, is_control}
 use Rattle.std.specs.List.{list_all, before_first, after_first, position_or_len}
 use Rattle.mark_base.specs.Names.{is_barred, is_mark}
-use Rattle.annotation_conf.specs.ConfLines.{Kind, Skipped, Header, Macro, Content, kind_of, is_skipped, is_hyphens, is_enclosed, enclosed, is_macro, section_named}
-use Rattle.annotation_conf.specs.ConfPairs.{Piece, pieces_of}
-use Rattle.annotation_conf.specs.ConfNames.{TypeLine, type_line, named_line}
+use Rattle.conf_model.specs.ConfLines.{Kind, Skipped, Header, Macro, Content, kind_of, is_skipped, is_hyphens, is_enclosed, enclosed, is_macro, section_named}
+use Rattle.conf_model.specs.ConfPairs.{Piece, pieces_of}
+use Rattle.conf_model.specs.ConfNames.{TypeLine, type_line, named_line}
 use Rattle.annotation_conf.proofs.Written.{IsDeclaredWord, body}
 use Rattle.annotation_conf.proofs.WrittenLists.{none-append, none_less, is_other, Opens, before_opened, from_opened}
 use Rattle.annotation_conf.proofs.WrittenNames.{Spells, spells-append, spells_chars, spells_valid, spells_name, spells_plain, is_wide, name_free, name_some, declared_word, declared_opens, declared_mixed}

@@ -8,8 +8,8 @@ use Rattle.std.specs.List.{position_or_len, list_all}
 use Rattle.mark_base.specs.Names.{is_barred, name_fault}
 use Rattle.mark_base.specs.declared.name.NameFault.{NameFault}
 use Rattle.mark_base.specs.declared.name.NameFault.TheVariants.{Empty, TooLong, BadChar}
-use Rattle.annotation_conf.specs.ConfLines.{is_hyphens}
-use Rattle.annotation_conf.specs.ConfFaults.{is_no_name}
+use Rattle.conf_model.specs.ConfLines.{is_hyphens}
+use Rattle.conf_model.specs.ConfFaults.{is_no_name}
 use Rattle.annotation_conf.proofs.Written.{IsWord, IsDeclaredWord}
 
 -- these are the characters of a text

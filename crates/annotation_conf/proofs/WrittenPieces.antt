@@ -7,10 +7,12 @@ use Rattle.std.specs.Str.{NonePass}
 use Rattle.std.specs.Char.{is_whitespace, is_control}
 use Rattle.std.specs.List.{before_first, position_or_len}
 use Rattle.mark_base.specs.Names.{is_barred, is_mark}
-use Rattle.annotation_conf.specs.ConfLines.{is_enclosed, enclosed}
-use Rattle.annotation_conf.specs.ConfPairs.{Alternative, Piece, Shapeless, Keyed, Pair, piece_of, alternatives_of, begins_mark}
-use Rattle.annotation_conf.specs.ConfText.{mark_text, pair_text, role_text}
-use Rattle.annotation_conf.specs.Configurations.{Alternatives, Role, Configuration}
+use Rattle.conf_model.specs.ConfLines.{is_enclosed, enclosed}
+use Rattle.conf_model.specs.ConfPairs.{Alternative, Piece, Shapeless, Keyed, Pair, piece_of, alternatives_of, begins_mark}
+use Rattle.conf_model.specs.ConfText.{mark_text, pair_text, role_text}
+use Rattle.conf_model.specs.Configurations.{Configuration}
+use Rattle.conf_model.specs.declared.alternatives.Alternatives.{Alternatives}
+use Rattle.conf_model.specs.declared.role.Role.{Role}
 use Rattle.annotation_conf.proofs.Written.{IsWord, IsSpelledChoice, IsSpelledRole, IsSpelled, written_alternatives, written_pair, written_role}
 use Rattle.annotation_conf.proofs.WrittenLists.{none-append, none_less, is_other, Opens, before_at, after_at, before_opened, from_opened, any_at}
 use Rattle.annotation_conf.proofs.WrittenNames.{Spells, spells-append, spells_chars, spells_valid, spells_name, spells_plain, is_wide, name_free, name_some}

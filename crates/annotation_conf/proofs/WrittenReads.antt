@@ -10,12 +10,15 @@ use Rattle.std.specs.Str.Lossy.{utf8_valid_len}
 use Rattle.std.specs.Str.Lines.{lines}
 use Rattle.std.specs.List.{AllByRecursion}
 use Rattle.mark_base.specs.Names.{name_fault}
-use Rattle.annotation_conf.specs.ConfLines.{Section, Entities, Relations, Events, Attributes, Before, Within, Header, Line, kind_of, lines_from, file_lines}
-use Rattle.annotation_conf.specs.ConfNames.{NamedLine, type_line, named_line, section_lines, is_overlap, macros_from, file_of_lines, file_of}
-use Rattle.annotation_conf.specs.ConfFaults.{is_no_declared}
-use Rattle.annotation_conf.specs.ConfPairs.{Piece}
-use Rattle.annotation_conf.specs.ConfText.{conf_text}
-use Rattle.annotation_conf.specs.Configurations.{Arguments, RelationType, Overlap, Configuration}
+use Rattle.conf_model.specs.ConfLines.{Section, Entities, Relations, Events, Attributes, Before, Within, Header, Line, kind_of, lines_from, file_lines}
+use Rattle.conf_model.specs.ConfNames.{NamedLine, type_line, named_line, section_lines, is_overlap, macros_from, file_of_lines, file_of}
+use Rattle.conf_model.specs.ConfFaults.{is_no_declared}
+use Rattle.conf_model.specs.ConfPairs.{Piece}
+use Rattle.conf_model.specs.ConfText.{conf_text}
+use Rattle.conf_model.specs.Configurations.{Configuration}
+use Rattle.conf_model.specs.declared.relation_type.Arguments.{Arguments}
+use Rattle.conf_model.specs.declared.relation_type.RelationType.{RelationType}
+use Rattle.conf_model.specs.declared.overlap_line.Overlap.{Overlap}
 use Rattle.annotation_conf.proofs.Written.{entity_rows, event_rows, relation_rows, relations_head, events_head, attributes_head, written_type, written_relation, written_overlap, written_attribute, relation_pieces, overlap_pieces, numbered, type_body, relation_body, overlap_body, attribute_body, entity_bodies, relation_bodies, event_bodies, attribute_bodies, written_section, written_file, IsDeclaredWord, IsSpelled}
 use Rattle.annotation_conf.proofs.WrittenNames.{spells_valid, spells_plain, is_wide}
 use Rattle.annotation_conf.proofs.WrittenChoices.{none_by}

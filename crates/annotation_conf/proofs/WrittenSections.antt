@@ -2,8 +2,8 @@
 use Rattle.std.proofs.Common.{◌≡◌, refl, sym, ap, ap₂, ◌∙◌, ℕ, suc, ◌+◌, true, false, List, [], ◌∷◌, ◌++◌, length, arith, Some, None, chars, map, add-zero, if◌then◌else◌}
 use Rattle.std.proofs.lemmas.List.Elements.{filter_map-append}
 use Rattle.std.specs.List.{AllByRecursion, cons_option}
-use Rattle.annotation_conf.specs.ConfLines.{Section, Place, Within, Kind, Header, Line, kind_of, place_after, lines_from}
-use Rattle.annotation_conf.specs.ConfNames.{is_section, content_of, section_lines, macros_from}
+use Rattle.conf_model.specs.ConfLines.{Section, Place, Within, Kind, Header, Line, kind_of, place_after, lines_from}
+use Rattle.conf_model.specs.ConfNames.{is_section, content_of, section_lines, macros_from}
 use Rattle.annotation_conf.proofs.Written.{numbered, content_line, written_section}
 use Rattle.annotation_conf.proofs.WrittenLines.{IsContent}
 

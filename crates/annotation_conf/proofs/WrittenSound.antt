@@ -3,10 +3,16 @@ use Rattle.std.proofs.Common.{◌≡◌, ℕ, suc, Bool, true, false, not, ◌||
 use Rattle.std.proofs.lemmas.Bool.{false≢true}
 use Rattle.std.specs.List.{AllByRecursion}
 use Rattle.mark_base.specs.Names.{name_fault}
-use Rattle.annotation_conf.specs.ConfPairs.{Named}
-use Rattle.annotation_conf.specs.ConfText.{type_name_at, relation_name_at, has_type_named}
-use Rattle.annotation_conf.specs.Configurations.{Alternatives, Role, Arguments, RelationType, AttributeType, Overlap, Configuration}
-use Rattle.annotation_conf.specs.Sound.{IsName, IsDeclaredName, AreTargets, IsRole, AreRoles, AreArguments, IsRelation, IsAttribute, IsOverlap, IsSound}
+use Rattle.conf_model.specs.ConfPairs.{Named}
+use Rattle.conf_model.specs.ConfText.{type_name_at, relation_name_at, has_type_named}
+use Rattle.conf_model.specs.Configurations.{Configuration}
+use Rattle.conf_model.specs.declared.alternatives.Alternatives.{Alternatives}
+use Rattle.conf_model.specs.declared.role.Role.{Role}
+use Rattle.conf_model.specs.declared.relation_type.Arguments.{Arguments}
+use Rattle.conf_model.specs.declared.relation_type.RelationType.{RelationType}
+use Rattle.conf_model.specs.declared.attribute_type.AttributeType.{AttributeType}
+use Rattle.conf_model.specs.declared.overlap_line.Overlap.{Overlap}
+use Rattle.conf_model.specs.Sound.{IsName, IsDeclaredName, AreTargets, IsRole, AreRoles, AreArguments, IsRelation, IsAttribute, IsOverlap, IsSound}
 use Rattle.annotation_conf.proofs.Written.{held_where, IsWord, IsDeclaredWord, IsSpelledChoice, IsSpelledRole, IsSpelledArguments, IsSpelledRelation, IsSpelledAttribute, IsSpelledOverlap, IsSpelled}
 use Rattle.annotation_conf.proofs.WrittenNames.{no_fault}
 use Rattle.annotation_conf.proofs.WrittenTexts.{each_less}

@@ -6,9 +6,14 @@ use Rattle.std.specs.Str.{chars, NonePass, skip_leading_whitespace}
 use Rattle.std.specs.Char.{is_whitespace}
 use Rattle.std.specs.List.{slice_split, onto_first, join_with_byte, AllByRecursion, AllZip}
 use Rattle.mark_base.specs.Names.{name_fault}
-use Rattle.annotation_conf.specs.ConfPairs.{Named, Piece, Keyed, Pair, piece_of, pieces_of}
-use Rattle.annotation_conf.specs.ConfText.{where_so, with_commas, role_text, pair_text}
-use Rattle.annotation_conf.specs.Configurations.{Role, RelationType, Arguments, Overlap, AttributeType, Configuration}
+use Rattle.conf_model.specs.ConfPairs.{Named, Piece, Keyed, Pair, piece_of, pieces_of}
+use Rattle.conf_model.specs.ConfText.{where_so, with_commas, role_text, pair_text}
+use Rattle.conf_model.specs.Configurations.{Configuration}
+use Rattle.conf_model.specs.declared.role.Role.{Role}
+use Rattle.conf_model.specs.declared.relation_type.RelationType.{RelationType}
+use Rattle.conf_model.specs.declared.relation_type.Arguments.{Arguments}
+use Rattle.conf_model.specs.declared.overlap_line.Overlap.{Overlap}
+use Rattle.conf_model.specs.declared.attribute_type.AttributeType.{AttributeType}
 use Rattle.annotation_conf.proofs.Written.{IsWord, IsSpelledRole, IsSpelledRelation, IsSpelledArguments, IsSpelledOverlap, IsSpelledAttribute, IsSpelled, written_role, relation_pieces, overlap_kinds, overlap_pieces, attribute_pieces}
 use Rattle.annotation_conf.proofs.WrittenLists.{none-append, none_less, split_at, split_none}
 use Rattle.annotation_conf.proofs.WrittenNames.{Spells, spells-append, spells_valid, spells_name, spells_plain, is_wide}

@@ -6,8 +6,12 @@ use Rattle.std.proofs.lemmas.List.Concat.{flat_map-append}
 use Rattle.std.specs.Option.{option_map_or}
 use Rattle.std.specs.List.{join_with_byte, enumerate_from, AllByRecursion}
 use Rattle.type_hierarchy.specs.declared.type_row.TypeRow.{TypeRow}
-use Rattle.annotation_conf.specs.ConfText.{depth_by, where_so, role_text, pair_text, line_text, type_text, relation_text, overlap_text, attribute_text, conf_text}
-use Rattle.annotation_conf.specs.Configurations.{Arguments, RelationType, AttributeType, Overlap, Configuration}
+use Rattle.conf_model.specs.ConfText.{depth_by, where_so, role_text, pair_text, line_text, type_text, relation_text, overlap_text, attribute_text, conf_text}
+use Rattle.conf_model.specs.Configurations.{Configuration}
+use Rattle.conf_model.specs.declared.relation_type.Arguments.{Arguments}
+use Rattle.conf_model.specs.declared.relation_type.RelationType.{RelationType}
+use Rattle.conf_model.specs.declared.attribute_type.AttributeType.{AttributeType}
+use Rattle.conf_model.specs.declared.overlap_line.Overlap.{Overlap}
 use Rattle.annotation_conf.proofs.Written.{entity_rows, event_rows, with_lines, relation_rows, roles_at, written_role, relation_pieces, overlap_kinds, overlap_pieces, attribute_pieces, body, type_body, relation_body, overlap_body, attribute_body, entity_bodies, relation_bodies, event_bodies, attribute_bodies, IsDeclaredWord, IsSpelledRole, IsSpelledArguments, IsSpelledRelation, IsSpelledAttribute, IsSpelledOverlap, IsSpelled}
 use Rattle.annotation_conf.proofs.WrittenTails.{roles_read, relation_tail, overlap_tail, attribute_tail}
 use Rattle.annotation_conf.proofs.WrittenLines.{IsNamedText, IsTypeText, declared_read, overlap_read, type_read}

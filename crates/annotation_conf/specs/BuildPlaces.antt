@@ -6,10 +6,10 @@ use Rattle.std.specs.Ordering.{nat_cmp}
 use Rattle.std.specs.BTreeSet.{insert_key}
 use Rattle.annotation_conf.specs.declared.build_places.Table.{Table}
 use Rattle.annotation_conf.specs.declared.build_places.Table.TheVariants.{Types, Relations}
-use Rattle.annotation_conf.specs.ConfPairs.{Alternative}
-use Rattle.annotation_conf.specs.ConfNames.{File, Holding}
-use Rattle.annotation_conf.specs.ConfFaults.{names_of, bound_names, of_named, firsts, stands_twice}
-use Rattle.annotation_conf.specs.ConfOf.{places_of}
+use Rattle.conf_model.specs.ConfPairs.{Alternative}
+use Rattle.conf_model.specs.ConfNames.{File, Holding}
+use Rattle.conf_model.specs.ConfFaults.{names_of, bound_names, of_named, firsts, stands_twice}
+use Rattle.conf_model.specs.ConfOf.{places_of}
 use Rattle.annotation_conf.specs.KnownFiles.{held_by}
 
 -- the names of a table: of types, or of relation types

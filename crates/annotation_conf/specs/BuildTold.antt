@@ -10,10 +10,14 @@ use Rattle.std.specs.BTreeMap.{BTreeMap, get}
 use Rattle.std.specs.Ordering.{nat_cmp}
 use Rattle.annotation_conf.specs.declared.file.TypeLine.{TypeLine as TypeLineValue}
 use Rattle.annotation_conf.specs.declared.file.NamedLine.{NamedLine as NamedLineValue}
-use Rattle.annotation_conf.specs.ConfNames.{File, TypeLine, file_of}
-use Rattle.annotation_conf.specs.ConfFaults.{is_among, is_values, word_of, stood_before, of_named}
-use Rattle.annotation_conf.specs.ConfOf.{resolved, arguments_of, role_at, role_of, last_at, conf_of, configuration_of}
-use Rattle.annotation_conf.specs.Configurations.{Role, Arguments, RelationType, Overlap, AttributeType}
+use Rattle.conf_model.specs.ConfNames.{File, TypeLine, file_of}
+use Rattle.conf_model.specs.ConfFaults.{is_among, is_values, word_of, stood_before, of_named}
+use Rattle.conf_model.specs.ConfOf.{resolved, arguments_of, role_at, role_of, last_at, conf_of, configuration_of}
+use Rattle.conf_model.specs.declared.role.Role.{Role}
+use Rattle.conf_model.specs.declared.relation_type.Arguments.{Arguments}
+use Rattle.conf_model.specs.declared.relation_type.RelationType.{RelationType}
+use Rattle.conf_model.specs.declared.overlap_line.Overlap.{Overlap}
+use Rattle.conf_model.specs.declared.attribute_type.AttributeType.{AttributeType}
 use Rattle.annotation_conf.specs.FileShows.{seen_alternative, seen_pair, seen_keyed}
 use Rattle.annotation_conf.specs.FaultsTold.{mark_equivalence}
 

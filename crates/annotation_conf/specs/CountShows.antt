@@ -2,7 +2,7 @@
 use Rattle.std.specs.Prelude.{ℕ, ◌==◌, List, Option, if◌then◌else◌}
 use Rattle.std.specs.List.{list_any, before_first, after_first}
 use Rattle.annotation_conf.specs.declared.count.Count.{Count as CountValue}
-use Rattle.annotation_conf.specs.ConfPairs.{Count, number_of, range_of}
+use Rattle.conf_model.specs.ConfPairs.{Count, number_of, range_of}
 
 -- the two numbers
 abbrev pub seen_count : CountValue → Count

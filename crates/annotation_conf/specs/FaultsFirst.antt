@@ -2,8 +2,8 @@
 use Rattle.std.specs.Prelude.{ℕ, ◌+◌, Bool, true, false, List, [], ◌∷◌, length, Option, Some, None, option_map, if◌then◌else◌}
 use Rattle.std.specs.Option.{option_or}
 use Rattle.std.specs.List.{list_any}
-use Rattle.annotation_conf.specs.declared.conf_fault.ConfWhat.{ConfWhat}
-use Rattle.annotation_conf.specs.declared.conf_fault.ConfWhat.TheVariants.{UnknownSection, SectionTwice, SectionMissing, OutsideSection}
+use Rattle.conf_model.specs.declared.conf_fault.ConfWhat.{ConfWhat}
+use Rattle.conf_model.specs.declared.conf_fault.ConfWhat.TheVariants.{UnknownSection, SectionTwice, SectionMissing, OutsideSection}
 use Rattle.annotation_conf.specs.declared.faults.LineFault.{LineFault}
 use Rattle.annotation_conf.specs.declared.faults.Opened.{Opened}
 use Rattle.annotation_conf.specs.declared.line.Section.{Section as SectionValue}
@@ -13,8 +13,8 @@ use Rattle.annotation_conf.specs.declared.line.What.TheVariants.{Plain, Unknown,
 use Rattle.annotation_conf.specs.declared.line.Line.{Line as LineValue}
 use Rattle.annotation_conf.specs.declared.file.TypeLine.{TypeLine as TypeLineValue}
 use Rattle.annotation_conf.specs.declared.file.MacroLine.{MacroLine as MacroLineValue}
-use Rattle.annotation_conf.specs.ConfNames.{File}
-use Rattle.annotation_conf.specs.ConfOf.{Fault}
+use Rattle.conf_model.specs.ConfNames.{File}
+use Rattle.conf_model.specs.ConfOf.{Fault}
 use Rattle.annotation_conf.specs.FaultsTold.{type_told, macro_told}
 
 -- a fault by its line

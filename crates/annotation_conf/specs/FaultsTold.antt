@@ -2,8 +2,8 @@
 use Rattle.std.specs.Prelude.{ℕ, ◌+◌, ◌||◌, ◌&&◌, ◌++◌, Bool, true, false, not, List, [], ◌∷◌, length, take, map, filter, nat_lt, Option, Some, None, is_some, is_none, bytes_eq, codes}
 use Rattle.std.specs.Option.{option_map_or}
 use Rattle.std.specs.List.{list_any}
-use Rattle.annotation_conf.specs.declared.conf_fault.ConfWhat.{ConfWhat}
-use Rattle.annotation_conf.specs.declared.conf_fault.ConfWhat.TheVariants.{BadIndent, BadName, NameTwice, BadCount, BadArgument, UnknownTypeNamed, UnknownMacro, TooManyTypes}
+use Rattle.conf_model.specs.declared.conf_fault.ConfWhat.{ConfWhat}
+use Rattle.conf_model.specs.declared.conf_fault.ConfWhat.TheVariants.{BadIndent, BadName, NameTwice, BadCount, BadArgument, UnknownTypeNamed, UnknownMacro, TooManyTypes}
 use Rattle.annotation_conf.specs.declared.pieces.Alternative.{Alternative as AlternativeValue}
 use Rattle.annotation_conf.specs.declared.pieces.Alternative.TheVariants.{Named as NamedValue, Held as HeldValue}
 use Rattle.annotation_conf.specs.declared.pieces.RolePair.{RolePair as RolePairValue}
@@ -11,9 +11,9 @@ use Rattle.annotation_conf.specs.declared.pieces.KeyedPair.{KeyedPair as KeyedPa
 use Rattle.annotation_conf.specs.declared.file.TypeLine.{TypeLine as TypeLineValue}
 use Rattle.annotation_conf.specs.declared.file.NamedLine.{NamedLine as NamedLineValue}
 use Rattle.annotation_conf.specs.declared.file.MacroLine.{MacroLine as MacroLineValue}
-use Rattle.annotation_conf.specs.ConfPairs.{count_of}
-use Rattle.annotation_conf.specs.ConfNames.{File, macro_named}
-use Rattle.annotation_conf.specs.ConfFaults.{first_told, names_badly, values_badly, is_values, stands_twice, is_no_name, is_no_declared, word_of, is_unknown, is_unheld, names_of, bound_names, of_types, of_named, firsts, stood_before, declared_names, is_among, are_past, is_binary, are_arguments, is_attribute, has_kinds, same_words, same_truth, first_line}
+use Rattle.conf_model.specs.ConfPairs.{count_of}
+use Rattle.conf_model.specs.ConfNames.{File, macro_named}
+use Rattle.conf_model.specs.ConfFaults.{first_told, names_badly, values_badly, is_values, stands_twice, is_no_name, is_no_declared, word_of, is_unknown, is_unheld, names_of, bound_names, of_types, of_named, firsts, stood_before, declared_names, is_among, are_past, is_binary, are_arguments, is_attribute, has_kinds, same_words, same_truth, first_line}
 use Rattle.annotation_conf.specs.FileKept.{KeyedPair, KeptNamed, kept_named}
 use Rattle.annotation_conf.specs.FileShows.{seen_alternative, seen_pair, seen_named}
 

@@ -6,10 +6,10 @@ use Rattle.annotation_conf.specs.declared.pieces.Piece.{Piece as PieceValue}
 use Rattle.annotation_conf.specs.declared.pieces.Piece.TheVariants.{Shapeless as ShapelessValue, Keyed as KeyedValue, Pair as PairValue}
 use Rattle.annotation_conf.specs.declared.line.Place.{Place as PlaceValue}
 use Rattle.annotation_conf.specs.declared.line.Place.TheVariants.{Before as BeforeValue, Nowhere as NowhereValue, Within as WithinValue}
-use Rattle.annotation_conf.specs.ConfLines.{Section, Entities, Relations, Events, Attributes, Place, Before, Nowhere, Within, Kind, Skipped, Header, Macro, Content, Line, kind_of, place_after}
-use Rattle.annotation_conf.specs.ConfPairs.{Piece, Shapeless, Keyed, Pair, begins_mark, alternatives_of}
-use Rattle.annotation_conf.specs.ConfNames.{type_line, named_line}
-use Rattle.annotation_conf.specs.ConfFaults.{RolePair, pairs_of, is_shapeless, is_kinds, is_pair, kinds_lead}
+use Rattle.conf_model.specs.ConfLines.{Section, Entities, Relations, Events, Attributes, Place, Before, Nowhere, Within, Kind, Skipped, Header, Macro, Content, Line, kind_of, place_after}
+use Rattle.conf_model.specs.ConfPairs.{Piece, Shapeless, Keyed, Pair, begins_mark, alternatives_of}
+use Rattle.conf_model.specs.ConfNames.{type_line, named_line}
+use Rattle.conf_model.specs.ConfFaults.{RolePair, pairs_of, is_shapeless, is_kinds, is_pair, kinds_lead}
 use Rattle.annotation_conf.specs.FileKept.{Behind, KeptNamed, KeptMacro, KeptFile, Said, keyed_of, kept_type, kept_named, said_of}
 use Rattle.annotation_conf.specs.FileShows.{seen_section, seen_alternative}
 

@@ -1,6 +1,6 @@
 -- The macros of a file from what is kept of them: each holds what its alternatives hold by the macros before it (private calls only).
 use Rattle.std.specs.Prelude.{List, [], ◌∷◌, ◌++◌}
-use Rattle.annotation_conf.specs.ConfNames.{MacroLine, all_held}
+use Rattle.conf_model.specs.ConfNames.{MacroLine, all_held}
 use Rattle.annotation_conf.specs.FileKept.{KeptMacro}
 
 -- a macro behind those before it

@@ -1,10 +1,10 @@
 -- What the reader of annotation.conf keeps of a file: each line by what it says, and what is declared by sorts (private calls only).
 use Rattle.std.specs.Prelude.{ℕ, Bool, List, Option, Some, None, filter_map, map}
 use Rattle.std.specs.List.{list_any}
-use Rattle.annotation_conf.specs.ConfLines.{Section, Place, Before, Nowhere, Within, Kind, Skipped, Header, Macro, Content, Line}
-use Rattle.annotation_conf.specs.ConfPairs.{Alternative, Piece, Shapeless, Keyed, Pair}
-use Rattle.annotation_conf.specs.ConfNames.{TypeLine, NamedLine, MacroLine, File}
-use Rattle.annotation_conf.specs.ConfFaults.{RolePair, pairs_of, is_shapeless, is_kinds, kinds_lead}
+use Rattle.conf_model.specs.ConfLines.{Section, Place, Before, Nowhere, Within, Kind, Skipped, Header, Macro, Content, Line}
+use Rattle.conf_model.specs.ConfPairs.{Alternative, Piece, Shapeless, Keyed, Pair}
+use Rattle.conf_model.specs.ConfNames.{TypeLine, NamedLine, MacroLine, File}
+use Rattle.conf_model.specs.ConfFaults.{RolePair, pairs_of, is_shapeless, is_kinds, kinds_lead}
 
 -- a pair with a bracketed key
 pub record KeyedPair : Type 0 where

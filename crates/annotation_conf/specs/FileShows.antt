@@ -14,10 +14,10 @@ use Rattle.annotation_conf.specs.declared.file.TypeLine.{TypeLine as TypeLineVal
 use Rattle.annotation_conf.specs.declared.file.NamedLine.{NamedLine as NamedLineValue}
 use Rattle.annotation_conf.specs.declared.file.MacroLine.{MacroLine as MacroLineValue}
 use Rattle.annotation_conf.specs.declared.file.File.{File as FileValue}
-use Rattle.annotation_conf.specs.ConfLines.{Section, Entities, Relations, Events, Attributes}
-use Rattle.annotation_conf.specs.ConfPairs.{Alternative, Named, Held}
-use Rattle.annotation_conf.specs.ConfNames.{File}
-use Rattle.annotation_conf.specs.ConfFaults.{RolePair}
+use Rattle.conf_model.specs.ConfLines.{Section, Entities, Relations, Events, Attributes}
+use Rattle.conf_model.specs.ConfPairs.{Alternative, Named, Held}
+use Rattle.conf_model.specs.ConfNames.{File}
+use Rattle.conf_model.specs.ConfFaults.{RolePair}
 use Rattle.annotation_conf.specs.FileKept.{KeyedPair, Behind, KeptType, KeptNamed, KeptMacro, Said, SaysNothing, NamesNone, OpensSection, StandsOutside, KeptLine, KeptFile, kept_type, kept_named, kept_macro, kept_line}
 
 -- a section

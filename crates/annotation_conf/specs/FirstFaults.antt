@@ -2,12 +2,12 @@
 use Rattle.std.specs.Prelude.{ℕ, ◌+◌, ◌≤◌, false, List, [], ◌∷◌, nat_lt, Option, Some, None, option_map, if◌then◌else◌, ⊤}
 use Rattle.std.specs.Option.{option_or}
 use Rattle.std.specs.List.{list_any}
-use Rattle.annotation_conf.specs.declared.conf_fault.ConfWhat.{ConfWhat}
-use Rattle.annotation_conf.specs.declared.conf_fault.ConfWhat.TheVariants.{UnknownSection, SectionTwice, OutsideSection}
-use Rattle.annotation_conf.specs.ConfLines.{Place, Before, Nowhere, Within, Kind, Skipped, Header, Macro, Content, Line}
-use Rattle.annotation_conf.specs.ConfNames.{TypeLine, NamedLine, MacroLine, File}
-use Rattle.annotation_conf.specs.ConfFaults.{pairs_of, is_shapeless, type_fault, relation_fault, overlap_fault, attribute_fault, macro_fault, opened_before}
-use Rattle.annotation_conf.specs.ConfOf.{Fault}
+use Rattle.conf_model.specs.declared.conf_fault.ConfWhat.{ConfWhat}
+use Rattle.conf_model.specs.declared.conf_fault.ConfWhat.TheVariants.{UnknownSection, SectionTwice, OutsideSection}
+use Rattle.conf_model.specs.ConfLines.{Place, Before, Nowhere, Within, Kind, Skipped, Header, Macro, Content, Line}
+use Rattle.conf_model.specs.ConfNames.{TypeLine, NamedLine, MacroLine, File}
+use Rattle.conf_model.specs.ConfFaults.{pairs_of, is_shapeless, type_fault, relation_fault, overlap_fault, attribute_fault, macro_fault, opened_before}
+use Rattle.conf_model.specs.ConfOf.{Fault}
 
 -- the first fault among things that stand on lines
 abbrev pub first_among : {X : Type 0} → (X → ℕ) → (X → Option ConfWhat) → List X → Option Fault

@@ -4,9 +4,9 @@ use Rattle.annotation_conf.specs.declared.file.File.{File as FileValue}
 use Rattle.annotation_conf.specs.declared.file.TypeLine.{TypeLine as TypeLineValue}
 use Rattle.annotation_conf.specs.declared.file.NamedLine.{NamedLine as NamedLineValue}
 use Rattle.annotation_conf.specs.declared.file.MacroLine.{MacroLine as MacroLineValue}
-use Rattle.annotation_conf.specs.ConfPairs.{Alternative, Named, Held}
-use Rattle.annotation_conf.specs.ConfNames.{File, MacroLine, Holding, all_held, one_held, macro_named}
-use Rattle.annotation_conf.specs.ConfFaults.{Declared, of_types, of_named, firsts}
+use Rattle.conf_model.specs.ConfPairs.{Alternative, Named, Held}
+use Rattle.conf_model.specs.ConfNames.{File, MacroLine, Holding, all_held, one_held, macro_named}
+use Rattle.conf_model.specs.ConfFaults.{Declared, of_types, of_named, firsts}
 use Rattle.annotation_conf.specs.FirstFaults.{IsInOrder}
 use Rattle.annotation_conf.specs.FileShows.{Shows}
 

@@ -2,9 +2,9 @@
 use Rattle.std.specs.Prelude.{◌≡◌, ℕ, ◌||◌, ◌&&◌, not, false, List, Option, option_map, take, length, map}
 use Rattle.std.specs.List.{list_any}
 use Rattle.annotation_conf.specs.declared.faults_macros.Kinds.{Kinds}
-use Rattle.annotation_conf.specs.ConfPairs.{Alternative}
-use Rattle.annotation_conf.specs.ConfNames.{File, MacroLine, Holding, built_in}
-use Rattle.annotation_conf.specs.ConfFaults.{is_among, names_of, bound_names, declared_names}
+use Rattle.conf_model.specs.ConfPairs.{Alternative}
+use Rattle.conf_model.specs.ConfNames.{File, MacroLine, Holding, built_in}
+use Rattle.conf_model.specs.ConfFaults.{is_among, names_of, bound_names, declared_names}
 use Rattle.annotation_conf.specs.KnownFiles.{held_by}
 
 -- the sorts that alternatives hold, and whether some name is declared, and that of no entity or event type

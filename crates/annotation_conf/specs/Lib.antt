@@ -1,13 +1,5 @@
 pub mod BuildPlaces
 pub mod BuildTold
-pub mod ConfFaultNames
-pub mod ConfFaults
-pub mod ConfLines
-pub mod ConfNames
-pub mod ConfOf
-pub mod ConfPairs
-pub mod ConfText
-pub mod Configurations
 pub mod CountShows
 pub mod FaultsFirst
 pub mod FaultsTold
@@ -16,11 +8,8 @@ pub mod FileHolds
 pub mod FileKept
 pub mod FileShows
 pub mod FirstFaults
-pub mod Kept
 pub mod KnownFiles
 pub mod KnownMacros
-pub mod Lookups
 pub mod NamePlaces
 pub mod ReadFaults
-pub mod Sound
 pub mod WorkedFiles

@@ -5,7 +5,7 @@ use Rattle.std.specs.BTreeMap.{BTreeMap, get_by}
 use Rattle.std.specs.Ordering.{nat_cmp}
 use Rattle.std.specs.Cmp.Lexicographic.{slice_cmp}
 use Rattle.annotation_conf.specs.declared.known_names.DeclaredName.{DeclaredName}
-use Rattle.annotation_conf.specs.ConfFaults.{Declared, stood_before}
+use Rattle.conf_model.specs.ConfFaults.{Declared, stood_before}
 use Rattle.annotation_conf.specs.FirstFaults.{IsRising}
 use denote.Ref.{Bor}
 

@@ -1,8 +1,8 @@
 -- What the reader of a configuration tells.
 use Rattle.std.specs.Prelude.{◌≡◌, ℕ, List, Err, ⊤}
-use Rattle.annotation_conf.specs.declared.conf_fault.ConfFault.{ConfFault}
-use Rattle.annotation_conf.specs.declared.conf_fault.ConfFault.TheVariants.{At, Memory}
-use Rattle.annotation_conf.specs.ConfOf.{conf_of}
+use Rattle.conf_model.specs.declared.conf_fault.ConfFault.{ConfFault}
+use Rattle.conf_model.specs.declared.conf_fault.ConfFault.TheVariants.{At, Memory}
+use Rattle.conf_model.specs.ConfOf.{conf_of}
 
 -- what a refusal says: the first fault of the bytes and its line, or want of memory
 abbrev pub IsFault : List ℕ → ConfFault → Type 0

@@ -1,6 +1,6 @@
 //! The configuration of a file without fault.
 ghost use Rattle.std.specs.Prelude.{◌≡◌, ◌≤◌, length, Ok, IfOk};
-ghost use Rattle.annotation_conf.specs.ConfOf.{configuration_of};
+ghost use Rattle.conf_model.specs.ConfOf.{configuration_of};
 ghost use Rattle.annotation_conf.specs.BuildTold.{IsFaultless};
 
 use crate::build_links::{attributes, overlaps, relations};
@@ -8,7 +8,7 @@ use crate::build_resolver::Resolver;
 use crate::build_roles::roles_of_types;
 use crate::build_types::{tree_of, type_rows};
 use crate::faults_macros::KnownMacros;
-use crate::{AttributeType, Conf, Overlap, RelationType, Roles};
+use conf_model::{AttributeType, Conf, Overlap, RelationType, Roles};
 use mark_base::Memory;
 use std::alloc::Global;
 use type_hierarchy::TypeRow;

@@ -1,8 +1,8 @@
 //! Overlap lines, attributes and relation types.
 ghost use Rattle.std.specs.Prelude.{◌≡◌, ◌<◌, ◌==◌, All, length, map, filter, IfOk, bytes_eq};
 ghost use Rattle.std.specs.List.{list_any, slice_split};
-ghost use Rattle.annotation_conf.specs.ConfFaults.{word_of, is_among};
-ghost use Rattle.annotation_conf.specs.ConfOf.{role_at};
+ghost use Rattle.conf_model.specs.ConfFaults.{word_of, is_among};
+ghost use Rattle.conf_model.specs.ConfOf.{role_at};
 ghost use Rattle.annotation_conf.specs.FileShows.{seen_alternative, seen_pair};
 ghost use Rattle.annotation_conf.specs.BuildTold.{has_kind_told, overlap_kept, first_targets, first_values, attribute_kept, arguments_kept, relation_kept, firsts_kept, AreRolesNamed, AreWordsNamed, IsAttributeNamed, IsRelationNamed};
 
@@ -13,7 +13,7 @@ use crate::faults_pairs::{is_values, word};
 use crate::file::NamedLine;
 use crate::line_parts::{spells, split_at};
 use crate::pieces::{Alternative, KeyedPair, RolePair, has_kinds_key};
-use crate::{ArgumentLines, AttributeType, Overlap, RelationType, Values};
+use conf_model::{ArgumentLines, AttributeType, Overlap, RelationType, Values};
 use mark_base::{Memory, Name};
 use std::alloc::Global;
 

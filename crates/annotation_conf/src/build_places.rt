@@ -1,14 +1,14 @@
 //! The places of the types and relation types that alternatives hold.
 ghost use Rattle.std.specs.Prelude.{◌≡◌, ◌≤◌, ◌<◌, [], length, map, take, IfOk, OnOk};
 ghost use Rattle.std.specs.Option.{option_map_or};
-ghost use Rattle.annotation_conf.specs.ConfNames.{all_held, macro_named};
+ghost use Rattle.conf_model.specs.ConfNames.{all_held, macro_named};
 ghost use Rattle.annotation_conf.specs.FileShows.{seen_alternative};
 ghost use Rattle.annotation_conf.specs.BuildPlaces.{names_in, place_in, IsTable, places_held, AreFirstPlaces, places_by, inserted};
 
-use crate::Places;
 use crate::faults_macros::built_in;
 use crate::names_by_sort::KnownNames;
 use crate::pieces::Alternative;
+use conf_model::Places;
 use mark_base::Memory;
 use std::alloc::Global;
 use std::collections::BTreeSet;

@@ -1,7 +1,7 @@
 //! Alternatives by the places of what they hold.
 ghost use Rattle.std.specs.Prelude.{◌≡◌, ◌≤◌, [], length, map, take, IfOk, if◌then◌else◌};
-ghost use Rattle.annotation_conf.specs.ConfNames.{all_held};
-ghost use Rattle.annotation_conf.specs.ConfOf.{resolved};
+ghost use Rattle.conf_model.specs.ConfNames.{all_held};
+ghost use Rattle.conf_model.specs.ConfOf.{resolved};
 ghost use Rattle.annotation_conf.specs.FileShows.{seen_alternative};
 ghost use Rattle.annotation_conf.specs.KnownMacros.{kinds_of};
 ghost use Rattle.annotation_conf.specs.BuildPlaces.{AreTables, places_held, AreFirstPlaces};
@@ -10,7 +10,7 @@ use crate::build_places::{Table, gather_places, macro_lists};
 use crate::faults_macros::{Kinds, KnownMacros, all_held};
 use crate::names_by_sort::KnownNames;
 use crate::pieces::Alternative;
-use crate::{Alternatives, Places};
+use conf_model::{Alternatives, Places};
 use mark_base::Memory;
 use std::alloc::Global;
 use std::marker::Model;
@@ -24,7 +24,7 @@ pub struct Resolver<'k, 'a> {
 }
 
 impl<'k, 'a> Model for Resolver<'k, 'a> {
-    ghost use Rattle.annotation_conf.specs.ConfNames.{File};
+    ghost use Rattle.conf_model.specs.ConfNames.{File};
 
     ghost Value = { File };
 

@@ -1,8 +1,8 @@
 //! The roles of event types and the arguments of relation types.
 ghost use Rattle.std.specs.Prelude.{◌≡◌, ◌++◌, [], None, All, map, IfOk, unwrap_or};
 ghost use Rattle.mark_base.specs.Names.{name_fault};
-ghost use Rattle.annotation_conf.specs.ConfPairs.{count_of};
-ghost use Rattle.annotation_conf.specs.ConfOf.{role_of, arguments_of};
+ghost use Rattle.conf_model.specs.ConfPairs.{count_of};
+ghost use Rattle.conf_model.specs.ConfOf.{role_of, arguments_of};
 ghost use Rattle.annotation_conf.specs.FileShows.{seen_pair};
 ghost use Rattle.annotation_conf.specs.CountShows.{seen_count};
 ghost use Rattle.annotation_conf.specs.BuildTold.{roles_kept, AreRolesNamed, HasRolesNamed};
@@ -11,7 +11,7 @@ use crate::build_resolver::Resolver;
 use crate::count::{Count, count_of};
 use crate::file::TypeLine;
 use crate::pieces::RolePair;
-use crate::{Arguments, Role, Roles};
+use conf_model::{Arguments, Role, Roles};
 use mark_base::{Memory, Name, NameFault};
 use std::alloc::Global;
 

@@ -2,7 +2,7 @@
 ghost use Rattle.std.specs.Prelude.{◌≡◌, ◌+◌, ◌-◌, ◌==◌, ◌≤◌, ◌++◌, [], None, All, length, map, IfOk, option_map, vec_len, if◌then◌else◌};
 ghost use Rattle.std.specs.BTreeMap.{get};
 ghost use Rattle.std.specs.Ordering.{nat_cmp};
-ghost use Rattle.annotation_conf.specs.ConfOf.{rows_from};
+ghost use Rattle.conf_model.specs.ConfOf.{rows_from};
 ghost use Rattle.mark_base.specs.Names.{name_fault};
 ghost use Rattle.type_hierarchy.specs.TypeFaults.{fault_of};
 ghost use Rattle.annotation_conf.specs.BuildTold.{bare_type, parent_by, IsTypeNamed};

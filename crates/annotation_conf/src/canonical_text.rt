@@ -1,12 +1,12 @@
 //! The canonical text of a configuration.
 ghost use Rattle.std.specs.Prelude.{◌≡◌, ◌++◌, ◌≤◌, ◌<◌, [], string_bytes, length, replicate, filter, map, codes, IfOk, OnOk, if◌then◌else◌, true, false, nat_lt, Ok};
 ghost use Rattle.std.specs.List.{flat_map, enumerate_from, join_with_byte};
-ghost use Rattle.annotation_conf.specs.ConfOf.{conf_of};
-ghost use Rattle.annotation_conf.specs.Lookups.{roles_of};
-ghost use Rattle.annotation_conf.specs.ConfText.{where_so, depth_by, line_text, pairs_text, role_text, type_text, arguments_text, relation_text, kinds_text, overlap_text, attribute_text, conf_text};
+ghost use Rattle.conf_model.specs.ConfOf.{conf_of};
+ghost use Rattle.conf_model.specs.Lookups.{roles_of};
+ghost use Rattle.conf_model.specs.ConfText.{where_so, depth_by, line_text, pairs_text, role_text, type_text, arguments_text, relation_text, kinds_text, overlap_text, attribute_text, conf_text};
 
 use crate::conf_words::{joined, pair_text, push_where, role_text, text_of, with_commas};
-use crate::{Arguments, AttributeType, Conf, Overlap, RelationType, Role};
+use conf_model::{Arguments, AttributeType, Conf, Overlap, RelationType, Role};
 use mark_base::{Memory, Name, Text, TypeId};
 use std::alloc::Global;
 use type_hierarchy::TypeRow;
@@ -284,7 +284,7 @@ fn push_attributes(
 /// The canonical text of a configuration: the four sections, macros written out, one TAB between a name
 /// and its pairs. Reading it gives an equal configuration. Cost: the bytes of the text, and for each type
 /// the depth of the tree.
-#[tactic(auto, unfolding(crate::specs::ConfText::conf_text))]
+#[tactic(auto, unfolding(conf_model::specs::ConfText::conf_text))]
 pub fn write_conf(alloc: Global, conf: &Conf) -> Result<Text, Memory>
     ensures text { IfOk result (λ text. text ≡ conf_text conf.now) }
     ensures again { conf_of (conf_text conf.now) ≡ Ok conf.now }

@@ -1,8 +1,8 @@
 //! Reading annotation.conf.
 ghost use Rattle.std.specs.Prelude.{◌≡◌, ◌≤◌, ◌<◌, ◌+◌, length, take, IfOk, IfErr, Ok, None};
 ghost use Rattle.std.specs.Str.Lossy.{utf8_valid_len};
-ghost use Rattle.annotation_conf.specs.ConfNames.{file_of};
-ghost use Rattle.annotation_conf.specs.ConfOf.{conf_of};
+ghost use Rattle.conf_model.specs.ConfNames.{file_of};
+ghost use Rattle.conf_model.specs.ConfOf.{conf_of};
 ghost use Rattle.annotation_conf.specs.ReadFaults.{IsFault};
 ghost use Rattle.annotation_conf.specs.FileShows.{Shows};
 
@@ -11,7 +11,7 @@ use crate::faults::any_fault;
 use crate::faults_macros::KnownMacros;
 use crate::file::{File, read_file};
 use crate::names_by_sort::KnownNames;
-use crate::{Conf, ConfFault, ConfWhat};
+use conf_model::{Conf, ConfFault, ConfWhat};
 use mark_base::{Memory, count_line_ends};
 use std::alloc::Global;
 use std::str;

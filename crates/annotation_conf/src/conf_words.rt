@@ -1,9 +1,9 @@
 //! The words of a configuration's canonical text: alternatives, marks and pairs.
 ghost use Rattle.std.specs.Prelude.{◌≡◌, ◌++◌, ◌∷◌, List, string_bytes, decimal, map, filter, not, IfOk, OnOk, codes};
 ghost use Rattle.std.specs.List.{join_with_byte, flat_map};
-ghost use Rattle.annotation_conf.specs.ConfText.{where_so, type_name_at, relation_name_at, has_type_named, alternatives_text, braces_text, mark_text, pair_text, role_text, with_commas};
+ghost use Rattle.conf_model.specs.ConfText.{where_so, type_name_at, relation_name_at, has_type_named, alternatives_text, braces_text, mark_text, pair_text, role_text, with_commas};
 
-use crate::{Alternatives, Conf, Role};
+use conf_model::{Alternatives, Conf, Role};
 use mark_base::{Memory, RelId, Text, TypeId};
 use std::alloc::Global;
 

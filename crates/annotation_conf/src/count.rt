@@ -1,6 +1,6 @@
 //! How often a role may be filled.
 ghost use Rattle.std.specs.Prelude.{◌≡◌, ◌∷◌, [], option_map};
-ghost use Rattle.annotation_conf.specs.ConfPairs.{number_of, range_of, count_of};
+ghost use Rattle.conf_model.specs.ConfPairs.{number_of, range_of, count_of};
 ghost use Rattle.annotation_conf.specs.CountShows.{seen_count, braces_count};
 
 use crate::line_parts::{cut_at, enclosed};

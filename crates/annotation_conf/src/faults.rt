@@ -2,18 +2,18 @@
 ghost use Rattle.std.specs.Prelude.{◌≡◌, ◌≤◌, ◌<◌, ◌+◌, [], None, length, option_map, IfOk, map};
 ghost use Rattle.std.specs.Option.{option_or};
 ghost use Rattle.std.specs.List.{list_any};
-ghost use Rattle.annotation_conf.specs.ConfOf.{missing_fault};
+ghost use Rattle.conf_model.specs.ConfOf.{missing_fault};
 ghost use Rattle.annotation_conf.specs.FirstFaults.{first_among, sooner, soonest_fault};
 ghost use Rattle.annotation_conf.specs.FaultsTold.{relation_told, overlap_told, attribute_told};
 ghost use Rattle.annotation_conf.specs.FaultsFirst.{seen_fault, fault_on, first_entity_told, first_event_told, first_macro_told, is_open, open_too, open_behind, bare_told, first_bare_told, none_open, opens_entities, missing_told};
 
-use crate::ConfWhat;
 use crate::faults_lines::{
     attribute_fault, macro_fault, overlap_fault, relation_fault, type_fault,
 };
 use crate::faults_macros::KnownMacros;
 use crate::file::{MacroLine, NamedLine, TypeLine};
 use crate::line::{Line, Section, What};
+use conf_model::ConfWhat;
 use mark_base::Memory;
 use std::alloc::Global;
 

@@ -1,13 +1,12 @@
 //! The fault of a line.
 ghost use Rattle.std.specs.Prelude.{◌≡◌, ◌≤◌, ◌||◌, ◌&&◌, ◌++◌, nat_lt, false, is_some, not, map, filter, take, length, codes, bytes_eq, IfOk, option_map};
 ghost use Rattle.std.specs.List.{list_any, list_all};
-ghost use Rattle.annotation_conf.specs.ConfFaults.{is_unknown, is_unheld, names_of, bound_names, declared_names, of_types, of_named, are_past, is_kind, are_kinds, has_kinds, is_values, same_words, same_truth};
-ghost use Rattle.annotation_conf.specs.ConfNames.{macro_named};
+ghost use Rattle.conf_model.specs.ConfFaults.{is_unknown, is_unheld, names_of, bound_names, declared_names, of_types, of_named, are_past, is_kind, are_kinds, has_kinds, is_values, same_words, same_truth};
+ghost use Rattle.conf_model.specs.ConfNames.{macro_named};
 ghost use Rattle.annotation_conf.specs.FileShows.{seen_alternative, seen_pair, seen_named, seen_keyed};
 ghost use Rattle.annotation_conf.specs.KnownMacros.{AreFirstKinds, kinds_of_macros};
 ghost use Rattle.annotation_conf.specs.FaultsTold.{too_deep, is_undeclared, names_no_type, unheld_in, type_told, mark_equivalence, agree_kept, agrees_with_first, relation_told, kinds_in, overlap_told, values_twice, target_names_nothing, target_unheld, targets_name_nothing, targets_unheld, has_many_values, many_values_in, attribute_told, macro_told};
 
-use crate::ConfWhat;
 use crate::faults_macros::{
     Kinds, KnownMacros, held_macro, is_undeclared, is_unheld, names_no_type,
 };
@@ -20,6 +19,7 @@ use crate::file::{MacroLine, NamedLine, TypeLine};
 use crate::line_parts::{spells, split_at};
 use crate::names_by_sort::{KnownNames, MOST_ROWS};
 use crate::pieces::{Alternative, KeyedPair, RolePair, has_kinds_key};
+use conf_model::ConfWhat;
 use mark_base::Memory;
 use std::alloc::Global;
 

@@ -1,8 +1,8 @@
 //! What the alternatives of a file hold, as far as its faults ask.
 ghost use Rattle.std.specs.Prelude.{◌≡◌, ℕ, ◌≤◌, length, map, take, option_map, IfOk};
-ghost use Rattle.annotation_conf.specs.ConfNames.{all_held, one_held};
-ghost use Rattle.annotation_conf.specs.ConfPairs.{Named, Held};
-ghost use Rattle.annotation_conf.specs.ConfFaults.{is_unknown, is_unheld, names_of, bound_names, declared_names};
+ghost use Rattle.conf_model.specs.ConfNames.{all_held, one_held};
+ghost use Rattle.conf_model.specs.ConfPairs.{Named, Held};
+ghost use Rattle.conf_model.specs.ConfFaults.{is_unknown, is_unheld, names_of, bound_names, declared_names};
 ghost use Rattle.annotation_conf.specs.FaultsTold.{is_undeclared};
 ghost use Rattle.annotation_conf.specs.FileShows.{seen_alternative};
 ghost use Rattle.annotation_conf.specs.KnownFiles.{IsKnown};
@@ -196,7 +196,7 @@ pub struct KnownMacros<'a> {
 
 impl<'a> Model for KnownMacros<'a> {
     ghost use Rattle.std.specs.Prelude.{◌≡◌};
-    ghost use Rattle.annotation_conf.specs.ConfNames.{File};
+    ghost use Rattle.conf_model.specs.ConfNames.{File};
 
     ghost Value = { File };
 

@@ -1,9 +1,9 @@
 //! Faults of role pairs and of alternatives.
 ghost use Rattle.std.specs.Prelude.{◌≡◌, ◌==◌, ◌||◌, ◌&&◌, nat_lt, not, map, filter, is_none, length, slice_index, codes, bytes_eq};
 ghost use Rattle.std.specs.List.{list_any, list_all};
-ghost use Rattle.annotation_conf.specs.ConfLines.{is_hyphens};
-ghost use Rattle.annotation_conf.specs.ConfPairs.{count_of};
-ghost use Rattle.annotation_conf.specs.ConfFaults.{is_no_name, is_no_declared, word_of, names_badly, is_among, stands_twice, is_binary, are_arguments, is_values, values_badly, is_held, is_attribute};
+ghost use Rattle.conf_model.specs.ConfLines.{is_hyphens};
+ghost use Rattle.conf_model.specs.ConfPairs.{count_of};
+ghost use Rattle.conf_model.specs.ConfFaults.{is_no_name, is_no_declared, word_of, names_badly, is_among, stands_twice, is_binary, are_arguments, is_values, values_badly, is_held, is_attribute};
 ghost use Rattle.annotation_conf.specs.FileShows.{seen_alternative, seen_pair};
 
 use crate::count::count_of;

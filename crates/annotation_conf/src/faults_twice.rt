@@ -1,6 +1,6 @@
 //! Names that stand twice on one line.
 ghost use Rattle.std.specs.Prelude.{◌≡◌, IfOk, map};
-ghost use Rattle.annotation_conf.specs.ConfFaults.{names_of, word_of, stands_twice};
+ghost use Rattle.conf_model.specs.ConfFaults.{names_of, word_of, stands_twice};
 ghost use Rattle.annotation_conf.specs.FileShows.{seen_alternative, seen_pair};
 ghost use Rattle.annotation_conf.specs.NamePlaces.{seen_declared};
 

@@ -1,9 +1,9 @@
 //! A file of annotation.conf by what its lines say.
 ghost use Rattle.std.specs.Prelude.{◌≡◌, ◌≤◌, ◌==◌, length, drop, slice_index, encode_utf8_all, option_map, IfOk, OnOk, if◌then◌else◌};
 ghost use Rattle.std.specs.Char.{is_whitespace};
-ghost use Rattle.annotation_conf.specs.ConfLines.{Before, Header, Content, kind_of, place_after};
-ghost use Rattle.annotation_conf.specs.ConfPairs.{alternatives_of};
-ghost use Rattle.annotation_conf.specs.ConfNames.{file_of, type_line, named_line};
+ghost use Rattle.conf_model.specs.ConfLines.{Before, Header, Content, kind_of, place_after};
+ghost use Rattle.conf_model.specs.ConfPairs.{alternatives_of};
+ghost use Rattle.conf_model.specs.ConfNames.{file_of, type_line, named_line};
 ghost use Rattle.annotation_conf.specs.FileKept.{SaysNothing, kept_type, kept_named, said_of};
 ghost use Rattle.annotation_conf.specs.FileShows.{seen_section, seen_type, seen_named, seen_macro, seen_what, seen_file, Shows};
 ghost use Rattle.annotation_conf.specs.FileGrows.{nothing_kept, with_line, with_macro, with_kept_relation, with_declared, seen_place, grown, line_of};

@@ -1,6 +1,6 @@
 //! Names by the lines that declare them.
 ghost use Rattle.std.specs.Prelude.{◌≡◌, ℕ, ◌+◌, ◌≤◌, nat_le, length, map, filter, not, IfOk, count_by};
-ghost use Rattle.annotation_conf.specs.ConfFaults.{Declared, stood_before, is_among, names_of, of_types, of_named};
+ghost use Rattle.conf_model.specs.ConfFaults.{Declared, stood_before, is_among, names_of, of_types, of_named};
 ghost use Rattle.annotation_conf.specs.FirstFaults.{IsRising};
 ghost use Rattle.annotation_conf.specs.NamePlaces.{seen_declared, place_among, firsts_among, FindsPlaces};
 
@@ -25,7 +25,7 @@ pub struct Names<'a> {
 
 impl<'a> Model for Names<'a> {
     ghost use Rattle.std.specs.Prelude.{List, map};
-    ghost use Rattle.annotation_conf.specs.ConfFaults.{Declared};
+    ghost use Rattle.conf_model.specs.ConfFaults.{Declared};
 
     ghost Value = { List Declared };
 

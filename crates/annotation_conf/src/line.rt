@@ -2,7 +2,7 @@
 ghost use Rattle.std.specs.Prelude.{◌≡◌, ◌==◌, ◌<◌, false, true, option_map, slice_index, MatchOption, drop};
 ghost use Rattle.std.specs.Char.{is_whitespace};
 ghost use Rattle.std.specs.List.{list_all, before_first, after_first};
-ghost use Rattle.annotation_conf.specs.ConfLines.{is_hyphens, is_skipped, is_macro, section_named};
+ghost use Rattle.conf_model.specs.ConfLines.{is_hyphens, is_skipped, is_macro, section_named};
 ghost use Rattle.annotation_conf.specs.FileShows.{seen_section};
 
 use crate::line_parts::{cut_at, spells, trimmed};

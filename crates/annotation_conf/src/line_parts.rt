@@ -4,8 +4,8 @@ ghost use Rattle.std.specs.Char.{is_whitespace};
 ghost use Rattle.std.specs.Str.{chars, skip_leading_whitespace};
 ghost use Rattle.std.specs.Str.Lines.{lines};
 ghost use Rattle.std.specs.List.{before_first, after_first, position, position_or_len, slice_split};
-ghost use Rattle.annotation_conf.specs.ConfLines.{is_enclosed, enclosed};
-ghost use Rattle.annotation_conf.specs.ConfPairs.{begins_mark};
+ghost use Rattle.conf_model.specs.ConfLines.{is_enclosed, enclosed};
+ghost use Rattle.conf_model.specs.ConfPairs.{begins_mark};
 
 use mark_base::{Memory, Text};
 use std::alloc::{AllocError, Global};

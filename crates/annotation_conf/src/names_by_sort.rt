@@ -1,7 +1,7 @@
 //! The names that a file declares, by sorts.
 ghost use Rattle.std.specs.Prelude.{◌≡◌, ℕ, ◌≤◌, ◌++◌, nat_le, length, map, filter, IfOk, count_by};
-ghost use Rattle.annotation_conf.specs.ConfNames.{file_of};
-ghost use Rattle.annotation_conf.specs.ConfFaults.{Declared, stood_before, is_among, names_of, of_types, of_named, bound_names, are_past, firsts};
+ghost use Rattle.conf_model.specs.ConfNames.{file_of};
+ghost use Rattle.conf_model.specs.ConfFaults.{Declared, stood_before, is_among, names_of, of_types, of_named, bound_names, are_past, firsts};
 ghost use Rattle.annotation_conf.specs.NamePlaces.{seen_declared, place_among};
 ghost use Rattle.annotation_conf.specs.FileShows.{Shows};
 ghost use Rattle.annotation_conf.specs.KnownFiles.{type_declared, named_declared, macro_declared, of_macros, IsKnown};
@@ -33,7 +33,7 @@ pub struct KnownNames<'a> {
 }
 
 impl<'a> Model for KnownNames<'a> {
-    ghost use Rattle.annotation_conf.specs.ConfNames.{File, file_of};
+    ghost use Rattle.conf_model.specs.ConfNames.{File, file_of};
 
     ghost Value = { File };
 

@@ -1,6 +1,6 @@
 //! What stands behind a name: pairs of a role, a mark and alternatives.
 ghost use Rattle.std.specs.Prelude.{◌≡◌, ◌∷◌, [], map, IfOk, OnOk, encode_utf8_all, bytes_eq, codes};
-ghost use Rattle.annotation_conf.specs.ConfPairs.{Keyed, alternative_of, alternatives_of, piece_of, pieces_of};
+ghost use Rattle.conf_model.specs.ConfPairs.{Keyed, alternative_of, alternatives_of, piece_of, pieces_of};
 ghost use Rattle.annotation_conf.specs.FileKept.{behind_of};
 ghost use Rattle.annotation_conf.specs.FileShows.{seen_alternative, seen_pair, seen_pieces};
 ghost use Rattle.annotation_conf.specs.FileGrows.{pair_of, seen_piece, with_piece, nothing_behind};

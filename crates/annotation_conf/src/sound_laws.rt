@@ -1,9 +1,9 @@
 //! What every configuration that was read keeps, and that its canonical text is read back as it.
 ghost use Rattle.std.specs.Prelude.{◌≡◌, Ok};
-ghost use Rattle.annotation_conf.specs.ConfOf.{conf_of};
-ghost use Rattle.annotation_conf.specs.ConfText.{conf_text};
-ghost use Rattle.annotation_conf.specs.Configurations.{Configuration};
-ghost use Rattle.annotation_conf.specs.Sound.{IsSound};
+ghost use Rattle.conf_model.specs.ConfOf.{conf_of};
+ghost use Rattle.conf_model.specs.ConfText.{conf_text};
+ghost use Rattle.conf_model.specs.Configurations.{Configuration};
+ghost use Rattle.conf_model.specs.Sound.{IsSound};
 
 // A configuration that was read is sound.
 fn a_configuration_that_was_read_is_sound(bytes: &[u8])

@@ -1,12 +1,12 @@
 //! The definition of a configuration at work: files that it reads, and the faults of others. Each
 //! function does nothing; its clauses are computed when the crate is checked.
 ghost use Rattle.std.specs.Prelude.{◌≡◌, [], ◌∷◌, ◌++◌, Ok, Err, codes, true, false};
-ghost use Rattle.annotation_conf.specs.ConfOf.{conf_of};
-ghost use Rattle.annotation_conf.specs.ConfText.{conf_text};
-ghost use Rattle.annotation_conf.specs.Lookups.{category_of, categories_of, relation_admits, role_admits, attribute_admits_relation, overlap_allowed};
+ghost use Rattle.conf_model.specs.ConfOf.{conf_of};
+ghost use Rattle.conf_model.specs.ConfText.{conf_text};
+ghost use Rattle.conf_model.specs.Lookups.{category_of, categories_of, relation_admits, role_admits, attribute_admits_relation, overlap_allowed};
 ghost use Rattle.annotation_conf.specs.WorkedFiles.{FaultAt, meetings, meetings_file, meetings_text, macros, macros_file, macros_text, types_file};
 
-use crate::ConfWhat;
+use conf_model::ConfWhat;
 use mark_base::OvlKind;
 
 /// Two files are read as they say, and each configuration is written as its canonical text, which is

@@ -2,9 +2,10 @@
 use crate::figures::{alpha_text, pairs_text};
 use crate::refusals::refusal_name;
 use crate::views::{out_text, view_text};
-use annotation_conf::{Conf, write_conf};
+use annotation_conf::write_conf;
 use case_desks::layer_text;
 use case_words::{CaseFault, counted, quoted};
+use conf_model::Conf;
 use mark_base::Memory;
 use project_book::{BookRefusal, DocList, Reply};
 use std::alloc::Global;

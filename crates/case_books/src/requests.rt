@@ -1,7 +1,7 @@
 //! Requests of a case.
-use annotation_conf::Conf;
 use case_desks::{doc_of, layer_of, script_of};
 use case_words::{Asked, CaseFault};
+use conf_model::Conf;
 use curator_decisions::Verdict;
 use layer_model::Layer;
 use project_book::Request;

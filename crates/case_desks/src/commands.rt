@@ -1,8 +1,8 @@
 //! The commands that a case says.
 use crate::layers::layer_of;
-use annotation_conf::Conf;
 use case_words::{CaseFault, Edit, Edits};
 use char_documents::Doc;
+use conf_model::Conf;
 use layer_core::Command;
 use layer_undo::Script;
 use std::alloc::Global;

@@ -1,11 +1,12 @@
 //! Configurations, texts and layers.
 use ann_reader::read_ann;
 use ann_writer::ann_bytes;
-use annotation_conf::{Conf, read_conf};
+use annotation_conf::read_conf;
 use case_words::{CaseFault, CaseWhat, quoted};
 use char_documents::Doc;
-use layer_core::check;
+use conf_model::Conf;
 use layer_model::Layer;
+use layer_rules::check;
 use std::alloc::Global;
 use std::str;
 

@@ -1,8 +1,8 @@
 //! Commands as a case says them.
 use crate::layers::layer_text;
-use annotation_conf::Conf;
 use case_words::{CaseFault, event_text, move_text, note_text, retype_text, span_text, with_id};
 use char_documents::Doc;
+use conf_model::Conf;
 use layer_core::Command;
 use layer_undo::Script;
 use std::alloc::Global;

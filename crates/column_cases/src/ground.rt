@@ -1,12 +1,13 @@
 //! What the cases of a file stand on, and the layer of a case.
 ghost use Rattle.std.specs.Prelude.{◌≡◌, length, IfOk};
-ghost use Rattle.layer_core.specs.WellFormed.{IsWellFormed};
+ghost use Rattle.layer_rules.specs.WellFormed.{IsWellFormed};
 
 use crate::section::{head_of, lines_of, text_of};
 use ann_reader::read_ann;
-use annotation_conf::{Conf, read_conf};
+use annotation_conf::read_conf;
 use anyhow::{Context, Error, Result};
 use char_documents::Doc;
+use conf_model::Conf;
 use layer_model::Layer;
 use std::alloc::Global;
 use std::str;

@@ -1,12 +1,12 @@
 //! What is read and written of a layer, and why it is refused, as cases write it.
 ghost use Rattle.std.specs.Prelude.{length};
-ghost use Rattle.layer_core.specs.WellFormed.{IsWellFormed};
+ghost use Rattle.layer_rules.specs.WellFormed.{IsWellFormed};
 
 use crate::ground::{Ground, layer_of, shown};
 use ann_writer::ann_bytes;
-use annotation_conf::Conf;
 use anyhow::{Error, Result};
 use char_documents::Doc;
+use conf_model::Conf;
 use layer_model::Layer;
 use mark_base::MemorySink;
 use std::alloc::Global;

@@ -5,14 +5,14 @@ use Rattle.std.specs.Result.{result_err}
 use Rattle.std.specs.List.{AllByRecursion}
 use Rattle.std.proofs.lemmas.List.{reverse-append}
 use Rattle.std.proofs.lemmas.Option.{none-some}
-use Rattle.annotation_conf.specs.Configurations.{Configuration}
+use Rattle.conf_model.specs.Configurations.{Configuration}
 use Rattle.layer_model.specs.Annotations.{Annotations}
 use Rattle.layer_model.specs.declared.rule.Rule.{Rule}
 use Rattle.layer_core.specs.declared.command.Command.{Command}
 use Rattle.layer_core.specs.declared.command.Command.TheVariants as ask
 use Rattle.layer_core.specs.Commands.{Applied, apply, answer_of, lower_rule, own_rule, draft_rule}
 use Rattle.layer_core.specs.MadeLayers.{with_less}
-use Rattle.layer_core.specs.WellFormed.{IsWellFormed, least_flaw}
+use Rattle.layer_rules.specs.WellFormed.{IsWellFormed, least_flaw}
 use Rattle.layer_undo.specs.Replays.{next, replay_from, first_refusal}
 use Rattle.command_bytes.specs.WritableCommands.{CanBeWritten}
 

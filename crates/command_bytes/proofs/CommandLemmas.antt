@@ -9,7 +9,7 @@ use Rattle.mark_base.specs.declared.named_args.NamedArg.{NamedArg}
 use Rattle.entry_bytes.specs.Reading.{made, byte_at}
 use Rattle.entry_bytes.proofs.Exact.{IsBytes, and_then_some, map_some, Takes, Taking, Again, both_take, both_again}
 use Rattle.entry_bytes.proofs.FieldLaws.{byte_takes, Always, text_takes, text_again}
-use Rattle.annotation_conf.specs.Configurations.{Configuration}
+use Rattle.conf_model.specs.Configurations.{Configuration}
 use Rattle.layer_model.specs.Annotations.{Annotations}
 use Rattle.layer_core.specs.declared.command.Command.{Command}
 use Rattle.layer_core.specs.declared.command.Command.TheVariants as ask

@@ -5,7 +5,7 @@ use Rattle.entry_bytes.specs.Fields.{text_bytes, IsText}
 use Rattle.entry_bytes.specs.Reading.{text_at}
 use Rattle.entry_bytes.proofs.Exact.{and_then_some, map_some, cond_some, Takes, Taking, Again}
 use Rattle.entry_bytes.proofs.FieldLaws.{text_takes, text_again}
-use Rattle.annotation_conf.specs.Configurations.{Configuration}
+use Rattle.conf_model.specs.Configurations.{Configuration}
 use Rattle.layer_model.specs.Annotations.{Annotations}
 use Rattle.ann_reader.specs.Lines.{lines_of}
 use Rattle.ann_reader.specs.AnnFaults.{ann_fault, layer_of}

@@ -7,7 +7,7 @@ use Rattle.std.proofs.lemmas.List.Concat.{flat_map-cons}
 use Rattle.std.proofs.lemmas.Option.{same_Some}
 use Rattle.entry_bytes.specs.Fields.{u32_bytes}
 use Rattle.entry_bytes.proofs.Exact.{IsBytes, and_then_some, cond_some, Taking, Again, both_take, both_again}
-use Rattle.annotation_conf.specs.Configurations.{Configuration}
+use Rattle.conf_model.specs.Configurations.{Configuration}
 use Rattle.layer_core.specs.declared.command.Command.{Command}
 use Rattle.layer_core.specs.declared.command.Command.TheVariants as ask
 use Rattle.command_bytes.specs.CommandBytes.{command_bytes, script_bytes, scripts_bytes}

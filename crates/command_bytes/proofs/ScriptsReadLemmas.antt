@@ -4,7 +4,7 @@ use Rattle.std.specs.Prelude.{Result, Ok, Err, IfOk, IfSome, IfNone, option_map}
 use Rattle.std.proofs.lemmas.Option.{none-some}
 use Rattle.mark_base.specs.declared.failed.Memory.{Memory}
 use Rattle.entry_bytes.proofs.Exact.{IsBytes}
-use Rattle.annotation_conf.specs.Configurations.{Configuration}
+use Rattle.conf_model.specs.Configurations.{Configuration}
 use Rattle.layer_core.specs.declared.command.Command.{Command}
 use Rattle.command_bytes.specs.declared.read_commands.Scripts.{Scripts}
 use Rattle.command_bytes.specs.CommandBytes.{scripts_bytes}

@@ -6,7 +6,7 @@ use Rattle.std.proofs.lemmas.List.{length-append}
 use Rattle.std.proofs.lemmas.List.Concat.{flat_map-cons}
 use Rattle.mark_base.specs.declared.ann_id.AnnId.{AnnId}
 use Rattle.entry_bytes.specs.Fields.{u32_bytes, text_bytes, IsText}
-use Rattle.annotation_conf.specs.Configurations.{Configuration}
+use Rattle.conf_model.specs.Configurations.{Configuration}
 use Rattle.layer_core.specs.declared.command.Command.{Command}
 use Rattle.layer_core.specs.declared.command.Command.TheVariants as ask
 use Rattle.command_bytes.specs.CommandBytes.{name_bytes, id_bytes, command_bytes, script_bytes}

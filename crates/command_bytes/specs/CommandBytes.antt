@@ -5,7 +5,7 @@ use Rattle.mark_base.specs.declared.ann_id.AnnId.{AnnId}
 use Rattle.mark_base.specs.declared.fragments.Frag.{Frag}
 use Rattle.mark_base.specs.declared.named_args.NamedArg.{NamedArg}
 use Rattle.entry_bytes.specs.Fields.{u32_bytes, text_bytes}
-use Rattle.annotation_conf.specs.Configurations.{Configuration}
+use Rattle.conf_model.specs.Configurations.{Configuration}
 use Rattle.layer_model.specs.Classes.{letter_place}
 use Rattle.layer_core.specs.declared.command.Command.{Command}
 use Rattle.layer_core.specs.declared.command.Command.TheVariants as ask

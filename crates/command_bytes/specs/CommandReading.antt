@@ -10,7 +10,7 @@ use Rattle.mark_base.specs.declared.named_args.NamedArg.{NamedArg}
 use Rattle.mark_base.specs.Names.{name_fault}
 use Rattle.mark_base.specs.ReadIds.{id_at}
 use Rattle.entry_bytes.specs.Reading.{◌&◌, made, passing, front_at, byte_at, flag_at, u32_at, text_at}
-use Rattle.annotation_conf.specs.Configurations.{Configuration}
+use Rattle.conf_model.specs.Configurations.{Configuration}
 use Rattle.layer_model.specs.Annotations.{Annotations}
 use Rattle.layer_core.specs.declared.command.Command.{Command}
 use Rattle.layer_core.specs.declared.command.Command.TheVariants as ask

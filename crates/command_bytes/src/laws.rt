@@ -2,10 +2,10 @@
 //! law that holds of all commands.
 ghost use Rattle.std.specs.Prelude.{◌≡◌, ◌++◌, ◌<◌, ◌≤◌, ℕ, List, length, get_or, true, None, Some};
 ghost use Rattle.std.specs.List.{AllByRecursion};
-ghost use Rattle.annotation_conf.specs.Configurations.{Configuration};
+ghost use Rattle.conf_model.specs.Configurations.{Configuration};
 ghost use Rattle.layer_model.specs.Annotations.{Annotations};
 ghost use Rattle.layer_core.specs.declared.command.Command.{Command};
-ghost use Rattle.layer_core.specs.WellFormed.{IsWellFormed};
+ghost use Rattle.layer_rules.specs.WellFormed.{IsWellFormed};
 ghost use Rattle.ann_writer.specs.AnnOf.{ann_of};
 ghost use Rattle.ann_writer.specs.Writable.{IsOfProgram};
 ghost use Rattle.layer_undo.specs.Replays.{first_refusal};
@@ -16,7 +16,7 @@ ghost use Rattle.command_bytes.specs.CommandValues.{AreCommands};
 
 use ann_reader::files_of_a_layer;
 use ann_writer::{written_layers_are_read_back, written_layers_are_utf8};
-use layer_core::unflawed_layers;
+use layer_rules::unflawed_layers;
 
 /// The bytes of two scripts are those of no other two, and reading them gives the two.
 pub fn scripts_are_told_apart()

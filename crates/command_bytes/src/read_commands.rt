@@ -8,8 +8,8 @@ ghost use Rattle.command_bytes.specs.CommandReading.{ReadsCommand, command_field
 use crate::read_fields::Cursor;
 use crate::read_load::take_load;
 use crate::read_plain::take_plain;
-use annotation_conf::Conf;
 use char_documents::Doc;
+use conf_model::Conf;
 use layer_core::Command;
 use layer_undo::Script;
 use mark_base::Memory;

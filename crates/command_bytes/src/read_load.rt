@@ -6,8 +6,8 @@ ghost use Rattle.command_bytes.specs.CommandReading.{ReadsCommand, layer_in, loa
 use crate::read_fields::Cursor;
 use ann_reader::{AnnFault, files_of_a_layer, read_ann};
 use ann_writer::ann_bytes;
-use annotation_conf::Conf;
 use char_documents::Doc;
+use conf_model::Conf;
 use layer_core::Command;
 use layer_model::Layer;
 use mark_base::Memory;

@@ -3,7 +3,7 @@
 ghost use Rattle.std.specs.Prelude.{◌≡◌, ℕ, List, [], ◌∷◌, codes, None, Some};
 ghost use Rattle.mark_base.specs.declared.ann_id.Kind.TheVariants as letter;
 ghost use Rattle.mark_base.specs.ReadIds.{id_at};
-ghost use Rattle.annotation_conf.specs.Configurations.{Configuration};
+ghost use Rattle.conf_model.specs.Configurations.{Configuration};
 ghost use Rattle.layer_core.specs.declared.command.Command.TheVariants as ask;
 ghost use Rattle.command_bytes.specs.CommandBytes.{command_bytes, scripts_bytes};
 ghost use Rattle.command_bytes.specs.CommandReading.{ann_id_at, name_at, value_at, plain_at};

@@ -20,9 +20,9 @@
 ghost use Rattle.std.specs.Prelude.{◌≡◌, ◌++◌, ◌∷◌, ℕ, List, true, length, OnOk, IfOk};
 ghost use Rattle.std.specs.List.{AllByRecursion};
 ghost use Rattle.entry_bytes.specs.Fields.{text_bytes};
-ghost use Rattle.annotation_conf.specs.Configurations.{Configuration};
+ghost use Rattle.conf_model.specs.Configurations.{Configuration};
 ghost use Rattle.layer_core.specs.declared.command.Command.TheVariants as ask;
-ghost use Rattle.layer_core.specs.WellFormed.{IsWellFormed};
+ghost use Rattle.layer_rules.specs.WellFormed.{IsWellFormed};
 ghost use Rattle.ann_writer.specs.AnnOf.{ann_of};
 ghost use Rattle.command_bytes.specs.CommandBytes.{name_bytes, id_bytes, list_bytes, frag_bytes, arg_bytes, value_bytes, command_bytes, script_bytes, scripts_bytes};
 ghost use Rattle.command_bytes.specs.WritableCommands.{is_plain, CanBeWritten};
@@ -32,8 +32,8 @@ use crate::write_fields::{
     put_u8, put_value,
 };
 use ann_writer::ann_bytes;
-use annotation_conf::Conf;
 use char_documents::Doc;
+use conf_model::Conf;
 use layer_core::Command;
 use layer_model::Layer;
 use layer_undo::Script;

@@ -9,11 +9,12 @@ ghost use Rattle.layer_model.specs.Snapshots.{row_of};
 ghost use Rattle.unanimous_merge.specs.Rows.{AreCoherent};
 
 use ann_reader::read_ann;
-use annotation_conf::{Conf, read_conf};
+use annotation_conf::read_conf;
 use anyhow::{Error, Result};
 use char_documents::Doc;
-use layer_core::well_formed_layers_cohere;
+use conf_model::Conf;
 use layer_model::{Layer, Snapshot};
+use layer_rules::well_formed_layers_cohere;
 use mark_base::Slug;
 use std::alloc::Global;
 use std::cmp::Ordering;

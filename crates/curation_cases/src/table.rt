@@ -1,14 +1,14 @@
 //! The items as a table, as cases write them.
 ghost use Rattle.std.specs.Prelude.{◌≡◌, length, true, All};
-ghost use Rattle.layer_core.specs.WellFormed.{IsWellFormed};
+ghost use Rattle.layer_rules.specs.WellFormed.{IsWellFormed};
 ghost use Rattle.unanimous_merge.specs.Rows.{AreCoherent};
 
 use crate::snapshots::Ground;
 use anyhow::{Error, Result};
 use curator_decisions::Decisions;
 use items_report::items_csv;
-use layer_core::check;
 use layer_model::Snapshot;
+use layer_rules::check;
 use std::alloc::Global;
 use std::str;
 

@@ -7,7 +7,7 @@ use Rattle.std.specs.List.{find, list_all, list_any}
 use Rattle.std.specs.Ordering.{nat_cmp, match_ordering}
 use Rattle.std.specs.declared.cmp.Ordering.TheVariants.{Less, Equal, Greater}
 use Rattle.mark_base.specs.declared.ann_id.AnnId.{AnnId}
-use Rattle.annotation_conf.specs.Configurations.{Configuration}
+use Rattle.conf_model.specs.Configurations.{Configuration}
 use Rattle.content_keys.specs.Nodes.{IsIn}
 use Rattle.content_keys.proofs.BagLemmas.{IsIn-either, map-IsIn}
 use Rattle.unanimous_merge.specs.declared.item.ItemId.{ItemId}

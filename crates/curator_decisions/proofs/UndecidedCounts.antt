@@ -22,8 +22,8 @@ use Rattle.layer_model.specs.Classes.{letter_place, rank}
 use Rattle.layer_model.specs.Layers.{IsLayer, mark_at, mark_of, numbers}
 use Rattle.layer_model.specs.Numbers.{NumbersFit}
 use Rattle.layer_model.specs.LayerIds.{ids_of_letter}
-use Rattle.layer_core.specs.LayerRules.{counted_letter, counted_with, is_id, layer_full}
-use Rattle.layer_core.specs.WellFormed.{Never, at_layer_full}
+use Rattle.layer_rules.specs.LayerRules.{counted_letter, counted_with, is_id, layer_full}
+use Rattle.layer_rules.specs.WellFormed.{Never, at_layer_full}
 use Rattle.content_keys.specs.Nodes.{IsIn}
 use Rattle.content_keys.specs.LayerContents.{ids_of}
 use Rattle.content_keys.proofs.BagLemmas.{map-IsIn, IsIn-either}

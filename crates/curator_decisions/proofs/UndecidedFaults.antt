@@ -4,11 +4,11 @@ use Rattle.std.proofs.lemmas.Bool.Decides.{eqb_tells}
 use Rattle.std.specs.Option.{option_map, option_map_or, option_or}
 use Rattle.std.specs.List.{list_any}
 use Rattle.mark_base.specs.declared.ann_id.AnnId.{AnnId}
-use Rattle.annotation_conf.specs.Configurations.{Configuration}
+use Rattle.conf_model.specs.Configurations.{Configuration}
 use Rattle.layer_model.specs.Annotations.{Annotations}
 use Rattle.layer_model.specs.Coherent.{IsCoherent}
 use Rattle.layer_model.specs.Layers.{IsLayer}
-use Rattle.layer_core.specs.WellFormed.{IsWellFormed, Obeys, least_flaw}
+use Rattle.layer_rules.specs.WellFormed.{IsWellFormed, Obeys, least_flaw}
 use Rattle.content_keys.specs.Nodes.{IsIn, Node}
 use Rattle.content_keys.specs.LayerContents.{content_of, node_of}
 use Rattle.content_keys.proofs.BagLemmas.{IsIn-either, map-IsIn}

@@ -10,7 +10,7 @@ use Rattle.std.specs.FinMap as finite
 use Rattle.mark_base.specs.declared.ann_id.AnnId.{AnnId}
 use Rattle.mark_base.specs.declared.ann_id.Kind.{Kind}
 use Rattle.mark_base.specs.declared.ann_id.Kind.TheVariants as letter
-use Rattle.annotation_conf.specs.Configurations.{Configuration}
+use Rattle.conf_model.specs.Configurations.{Configuration}
 use Rattle.layer_model.specs.declared.class.Class.{Class}
 use Rattle.layer_model.specs.declared.mark.Mark.TheVariants as marked
 use Rattle.layer_model.specs.declared.span.Span.{Span}
@@ -18,8 +18,8 @@ use Rattle.layer_model.specs.Annotations.{Annotations}
 use Rattle.layer_model.specs.Classes.{Precedes, joined, rank}
 use Rattle.layer_model.specs.Coherent.{AllStand, IsCoherent, is_span_letter}
 use Rattle.layer_model.specs.Layers.{IsLayer, has, has_number, mark_of}
-use Rattle.layer_core.specs.LayerRules.{counted_with}
-use Rattle.layer_core.specs.WellFormed.{IsWellFormed, Obeys}
+use Rattle.layer_rules.specs.LayerRules.{counted_with}
+use Rattle.layer_rules.specs.WellFormed.{IsWellFormed, Obeys}
 use Rattle.content_keys.specs.Nodes.{IsIn}
 use Rattle.content_keys.specs.LayerContents.{class_content, content_of, node_of_mark}
 use Rattle.content_keys.proofs.IdLemmas.{same_rank}

@@ -11,10 +11,10 @@ use Rattle.mark_base.specs.declared.arguments.Arg.{Arg}
 use Rattle.mark_base.specs.declared.table_places.TypeId.{TypeId}
 use Rattle.mark_base.specs.ReadIds.{id_at}
 use Rattle.mark_base.proofs.IdLemmas.{id_at-id}
-use Rattle.annotation_conf.specs.declared.attr_target.AttrTarget.{AttrTarget}
-use Rattle.annotation_conf.specs.declared.attr_target.AttrTarget.TheVariants.{Bound, Between}
-use Rattle.annotation_conf.specs.Configurations.{Configuration}
-use Rattle.annotation_conf.specs.Lookups.{attribute_admits, role_admits, role_most, roles_of}
+use Rattle.conf_model.specs.declared.attr_target.AttrTarget.{AttrTarget}
+use Rattle.conf_model.specs.declared.attr_target.AttrTarget.TheVariants.{Bound, Between}
+use Rattle.conf_model.specs.Configurations.{Configuration}
+use Rattle.conf_model.specs.Lookups.{attribute_admits, role_admits, role_most, roles_of}
 use Rattle.layer_model.specs.declared.class.Class.{Class}
 use Rattle.layer_model.specs.declared.mark.Mark.{Mark}
 use Rattle.layer_model.specs.declared.mark.Mark.TheVariants as marked
@@ -24,11 +24,11 @@ use Rattle.layer_model.specs.declared.rule.RoleAt.TheVariants as role
 use Rattle.layer_model.specs.Annotations.{Annotations}
 use Rattle.layer_model.specs.Coherent.{named, trigger_id}
 use Rattle.layer_model.specs.Layers.{has, mark_at, mark_of}
-use Rattle.layer_core.specs.FlawPlaces.{by_place}
-use Rattle.layer_core.specs.MarkRules.{Wanted, argument, argument_type, bad_fragments, class_not_for_use, filled, first_missing, first_unwanted, is_refused_argument, member, named_by, not_for_use, out_of_text, relation_types, span_too_long, too_many, trigger, unknown_class, unknown_role, unknown_type, unknown_value, wanted_by, where_so}
-use Rattle.layer_core.specs.LayerRules.{bad_text}
-use Rattle.layer_core.specs.Targets.{is_argument, is_attribute_target, is_member, is_normal_target, is_note_target, is_trigger, target_by, target_of, type_by, type_of}
-use Rattle.layer_core.specs.WellFormed.{Never, at_argument_type, at_bad_fragments, at_bad_text, at_no_such, at_not_for_use, at_out_of_text, at_span_too_long, at_too_many, at_unknown_role, at_unknown_type, at_unknown_value, at_wrong_kind, no_class}
+use Rattle.layer_rules.specs.FlawPlaces.{by_place}
+use Rattle.layer_rules.specs.MarkRules.{Wanted, argument, argument_type, bad_fragments, class_not_for_use, filled, first_missing, first_unwanted, is_refused_argument, member, named_by, not_for_use, out_of_text, relation_types, span_too_long, too_many, trigger, unknown_class, unknown_role, unknown_type, unknown_value, wanted_by, where_so}
+use Rattle.layer_rules.specs.LayerRules.{bad_text}
+use Rattle.layer_rules.specs.Targets.{is_argument, is_attribute_target, is_member, is_normal_target, is_note_target, is_trigger, target_by, target_of, type_by, type_of}
+use Rattle.layer_rules.specs.WellFormed.{Never, at_argument_type, at_bad_fragments, at_bad_text, at_no_such, at_not_for_use, at_out_of_text, at_span_too_long, at_too_many, at_unknown_role, at_unknown_type, at_unknown_value, at_wrong_kind, no_class}
 use Rattle.content_keys.specs.Nodes.{IsIn}
 use Rattle.content_keys.proofs.BagLemmas.{IsIn-map, map-IsIn}
 use Rattle.unanimous_merge.proofs.ListLemmas.{any_map}

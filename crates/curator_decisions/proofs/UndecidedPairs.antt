@@ -13,8 +13,8 @@ use Rattle.mark_base.specs.declared.ann_id.Kind.TheVariants as letter
 use Rattle.mark_base.specs.declared.arguments.Arg.{Arg}
 use Rattle.mark_base.specs.ReadIds.{id_at}
 use Rattle.mark_base.proofs.IdLemmas.{id_of_parts}
-use Rattle.annotation_conf.specs.Configurations.{Configuration}
-use Rattle.annotation_conf.specs.Lookups.{role_least, roles_of}
+use Rattle.conf_model.specs.Configurations.{Configuration}
+use Rattle.conf_model.specs.Lookups.{role_least, roles_of}
 use Rattle.layer_model.specs.declared.event.Event.{Event}
 use Rattle.layer_model.specs.declared.mark.Mark.{Mark}
 use Rattle.layer_model.specs.declared.mark.Mark.TheVariants as marked
@@ -26,11 +26,11 @@ use Rattle.layer_model.specs.Classes.{rank}
 use Rattle.layer_model.specs.Coherent.{named, trigger_id}
 use Rattle.layer_model.specs.Layers.{mark_at, mark_of}
 use Rattle.layer_model.specs.LayerIds.{ids_of}
-use Rattle.layer_core.specs.FlawPlaces.{by_place}
-use Rattle.layer_core.specs.MarkRules.{where_so}
-use Rattle.layer_core.specs.LayerRules.{are_bad_members, begins_longer_chain, equiv_members, is_arg, is_event_id, is_id, letter_is_event, lower_pair, may_be_equal, refused_overlap, same_attributes, same_bag, same_events, same_relations, same_spans, too_deep}
-use Rattle.layer_core.specs.Targets.{type_of}
-use Rattle.layer_core.specs.WellFormed.{Never, at_attribute_there, at_equiv_members, at_overlap_refused, at_same_event, at_same_relation, at_same_span, at_too_deep, commit_fault, first_told, no_class, too_few, too_few_of}
+use Rattle.layer_rules.specs.FlawPlaces.{by_place}
+use Rattle.layer_rules.specs.MarkRules.{where_so}
+use Rattle.layer_rules.specs.LayerRules.{are_bad_members, begins_longer_chain, equiv_members, is_arg, is_event_id, is_id, letter_is_event, lower_pair, may_be_equal, refused_overlap, same_attributes, same_bag, same_events, same_relations, same_spans, too_deep}
+use Rattle.layer_rules.specs.Targets.{type_of}
+use Rattle.layer_rules.specs.WellFormed.{Never, at_attribute_there, at_equiv_members, at_overlap_refused, at_same_event, at_same_relation, at_same_span, at_too_deep, commit_fault, first_told, no_class, too_few, too_few_of}
 use Rattle.content_keys.specs.Nodes.{IsIn}
 use Rattle.content_keys.proofs.BagLemmas.{IsIn-map, IsIn-either}
 use Rattle.content_keys.proofs.IdLemmas.{same_rank}

@@ -22,9 +22,9 @@ use Rattle.layer_model.specs.Classes.{rank}
 use Rattle.layer_model.specs.Coherent.{named, trigger_id}
 use Rattle.layer_model.specs.Layers.{has_number, mark_at, mark_of, numbers}
 use Rattle.layer_model.specs.LayerIds.{ids_of, ids_of_letter}
-use Rattle.layer_core.specs.FlawPlaces.{by_place}
-use Rattle.layer_core.specs.MarkRules.{named_by, where_so}
-use Rattle.layer_core.specs.WellFormed.{Never}
+use Rattle.layer_rules.specs.FlawPlaces.{by_place}
+use Rattle.layer_rules.specs.MarkRules.{named_by, where_so}
+use Rattle.layer_rules.specs.WellFormed.{Never}
 use Rattle.content_keys.specs.Nodes.{IsIn}
 use Rattle.content_keys.proofs.BagLemmas.{IsIn-map, IsIn-left, IsIn-right, map_map}
 use Rattle.content_keys.proofs.IdLemmas.{same_rank}

@@ -4,15 +4,15 @@ use Rattle.std.specs.Option.{option_map_or, option_and_then}
 use Rattle.mark_base.specs.declared.ann_id.AnnId.{AnnId}
 use Rattle.mark_base.specs.declared.ann_id.Kind.{Kind}
 use Rattle.mark_base.specs.declared.ann_id.Kind.TheVariants as letter
-use Rattle.annotation_conf.specs.Configurations.{Configuration}
+use Rattle.conf_model.specs.Configurations.{Configuration}
 use Rattle.layer_model.specs.declared.class.Class.{Class}
 use Rattle.layer_model.specs.declared.mark.Mark.{Mark}
 use Rattle.layer_model.specs.declared.rule.Rule.TheVariants.{LayerFull}
 use Rattle.layer_model.specs.declared.flaw.FlawPlace.TheVariants as at
 use Rattle.layer_model.specs.Annotations.{Annotations}
-use Rattle.layer_core.specs.MarkRules.{where_so}
-use Rattle.layer_core.specs.LayerRules.{classes_full, counted_letter, counted_with, is_id, layer_full}
-use Rattle.layer_core.specs.WellFormed.{IsWellFormed, Never, Obeys, at_layer_full}
+use Rattle.layer_rules.specs.MarkRules.{where_so}
+use Rattle.layer_rules.specs.LayerRules.{classes_full, counted_letter, counted_with, is_id, layer_full}
+use Rattle.layer_rules.specs.WellFormed.{IsWellFormed, Never, Obeys, at_layer_full}
 use Rattle.curator_decisions.proofs.UndecidedPart.{ClassOrigin, IsPart, none_some, so_none}
 use Rattle.curator_decisions.proofs.UndecidedOwn.{arguments_carry, counts_carry, ends_carry, fragments_carry, kinds_carry, names_carry, reaches_carry, roles_carry, texts_carry, types_carry, use_carries, values_carry}
 use Rattle.curator_decisions.proofs.UndecidedPairs.{attributes_carry, chains_carry, enough_carries, members_carry, overlaps_carry, same_events_carry, same_relations_carry, same_spans_carry}

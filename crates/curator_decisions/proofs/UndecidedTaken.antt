@@ -18,7 +18,7 @@ use Rattle.layer_model.specs.Annotations.{Annotations, no_marks}
 use Rattle.layer_model.specs.Classes.{rank}
 use Rattle.layer_model.specs.Coherent.{IsCoherent}
 use Rattle.layer_model.specs.Layers.{IsLayer, is_of_kind, mark_at, mark_of, with_classes}
-use Rattle.layer_core.specs.LayerRules.{counted_with}
+use Rattle.layer_rules.specs.LayerRules.{counted_with}
 use Rattle.content_keys.specs.Nodes.{IsIn}
 use Rattle.unanimous_merge.specs.Items.{Held}
 use Rattle.unanimous_merge.specs.Readings.{Reading, reading_of, readings}

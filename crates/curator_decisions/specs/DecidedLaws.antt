@@ -1,7 +1,7 @@
 -- What a verdict changes, and what it leaves: the list of decisions stands for a map from items to verdicts, and a step
 -- that is not refused leads from accepted decisions to accepted decisions.
 use Rattle.std.specs.Prelude.{◌≡◌, ◌≢◌, ℕ, List, Some, None}
-use Rattle.annotation_conf.specs.Configurations.{Configuration}
+use Rattle.conf_model.specs.Configurations.{Configuration}
 use Rattle.unanimous_merge.specs.declared.item.ItemId.{ItemId}
 use Rattle.unanimous_merge.specs.Readings.{Reading}
 use Rattle.curator_decisions.specs.declared.verdict.Verdict.{Verdict}

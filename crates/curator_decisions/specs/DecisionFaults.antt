@@ -3,10 +3,10 @@ use Rattle.std.specs.Prelude.{ℕ, ◌==◌, ◌&&◌, Bool, true, false, not, c
 use Rattle.std.specs.List.{list_all, list_any}
 use Rattle.std.specs.Option.{option_map_or, option_or}
 use Rattle.mark_base.specs.declared.ann_id.AnnId.{AnnId}
-use Rattle.annotation_conf.specs.Configurations.{Configuration}
+use Rattle.conf_model.specs.Configurations.{Configuration}
 use Rattle.layer_model.specs.declared.rule.Rule.{Rule}
 use Rattle.layer_model.specs.Annotations.{Annotations}
-use Rattle.layer_core.specs.WellFormed.{commit_fault, least_flaw}
+use Rattle.layer_rules.specs.WellFormed.{commit_fault, least_flaw}
 use Rattle.content_keys.specs.LayerContents.{node_in}
 use Rattle.unanimous_merge.specs.declared.item.ItemId.{ItemId}
 use Rattle.unanimous_merge.specs.Items.{Held, leaders, name_of}

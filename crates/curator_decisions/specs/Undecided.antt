@@ -1,9 +1,9 @@
 -- What layers that obey a configuration give a curator before anything is decided.
 use Rattle.std.specs.Prelude.{◌≡◌, ℕ, ◌<◌, List, [], length, None, All}
-use Rattle.annotation_conf.specs.Configurations.{Configuration}
+use Rattle.conf_model.specs.Configurations.{Configuration}
 use Rattle.layer_model.specs.Annotations.{Annotations}
 use Rattle.layer_model.specs.Layers.{IsLayer}
-use Rattle.layer_core.specs.WellFormed.{Obeys}
+use Rattle.layer_rules.specs.WellFormed.{Obeys}
 use Rattle.unanimous_merge.specs.Readings.{readings}
 use Rattle.curator_decisions.specs.Curated.{curated}
 use Rattle.curator_decisions.specs.DecisionFaults.{decision_fault}

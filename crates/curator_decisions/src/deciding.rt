@@ -1,8 +1,8 @@
 //! Decisions that are accepted and refused.
 ghost use Rattle.std.specs.Prelude.{◌≡◌, ◌<◌, ◌≤◌, ℕ, [], length, map, None, option_map, is_some, slice_index, slice_get, IfErr, IfOk, OnErr, OnOk};
 ghost use Rattle.std.specs.List.{list_all};
-ghost use Rattle.layer_core.specs.declared.check_fault.CheckFault.{CheckFault};
-ghost use Rattle.layer_core.specs.WellFormed.{Obeys};
+ghost use Rattle.layer_rules.specs.declared.check_fault.CheckFault.{CheckFault};
+ghost use Rattle.layer_rules.specs.WellFormed.{Obeys};
 ghost use Rattle.unanimous_merge.specs.Merges.{IsMerged};
 ghost use Rattle.unanimous_merge.specs.Readings.{readings};
 ghost use Rattle.unanimous_merge.specs.Rows.{AreCoherent, held_at};
@@ -21,10 +21,10 @@ use crate::naming::{
 };
 use crate::numbering::is_in;
 use crate::verdict::Verdict;
-use annotation_conf::Conf;
 use char_documents::Doc;
-use layer_core::{CheckFault, check, may_commit};
+use conf_model::Conf;
 use layer_model::{Flaw, Layer, Rule, Snapshot};
+use layer_rules::{CheckFault, check, may_commit};
 use mark_base::Memory;
 use std::alloc::Global;
 use std::collections::BTreeMap;

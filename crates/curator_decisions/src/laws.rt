@@ -2,7 +2,7 @@
 //! contract is the law.
 ghost use Rattle.curator_decisions.specs.Undecided.{UndecidedLayersAreAccepted, UndecidedLayersObey};
 
-use layer_core::{unflawed_layers, well_formed_layers_cohere};
+use layer_rules::{unflawed_layers, well_formed_layers_cohere};
 
 /// Before anything is decided the curated layer obeys whatever configuration the layers of the snapshot obey,
 /// on a text of as many characters. So a curator can begin with any snapshot of finished layers. What

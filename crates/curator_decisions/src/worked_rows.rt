@@ -1,7 +1,7 @@
 //! The definitions at work on a small snapshot. The functions do nothing; their clauses are computed when the
 //! crate is checked.
 ghost use Rattle.std.specs.Prelude.{◌≡◌, ℕ, [], ◌∷◌, Some};
-ghost use Rattle.annotation_conf.specs.Configurations.{Configuration};
+ghost use Rattle.conf_model.specs.Configurations.{Configuration};
 ghost use Rattle.content_keys.specs.WorkedLayers.{arg, e, event, span, t};
 ghost use Rattle.unanimous_merge.specs.WorkedSnapshots.{both, name};
 ghost use Rattle.curator_decisions.specs.declared.decision_fault.DecisionFault.TheVariants as no;

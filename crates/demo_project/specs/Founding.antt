@@ -1,8 +1,8 @@
 -- The project of the session as it is founded.
 use Rattle.std.specs.Prelude.{◌≡◌, ℕ, true, false, List, [], ◌∷◌, codes, Ok}
 use Rattle.entry_bytes.specs.declared.person.Person.{Person}
-use Rattle.annotation_conf.specs.Configurations.{Configuration}
-use Rattle.annotation_conf.specs.ConfOf.{conf_of}
+use Rattle.conf_model.specs.Configurations.{Configuration}
+use Rattle.conf_model.specs.ConfOf.{conf_of}
 use Rattle.project_machine.specs.Requests.{Happened}
 use Rattle.project_book.specs.Founding.{founded}
 

@@ -4,7 +4,8 @@ ghost use Rattle.mark_base.specs.FailList.{IsFaultless};
 ghost use Rattle.project_journal.specs.MemoryKeepers.{fails_of_appends};
 ghost use Rattle.demo_project.specs.Founding.{IsDemoConf, IsFounded, conf_lines, demo_people};
 
-use annotation_conf::{Conf, read_conf};
+use annotation_conf::read_conf;
+use conf_model::Conf;
 use entry_bytes::Person;
 use mark_base::{Memory, Slug};
 use project_book::{Book, Roster};

@@ -1,9 +1,9 @@
 -- The items of a snapshot as CSV (RFC 4180), each with its line in its holder's .ann file.
 use Rattle.std.specs.Prelude.{ℕ, List, [], ◌∷◌, ◌++◌, length, map, flat_map, codes, All}
 use Rattle.csv.specs.Writing.{default_writer, row_text}
-use Rattle.annotation_conf.specs.Configurations.{Configuration}
+use Rattle.conf_model.specs.Configurations.{Configuration}
 use Rattle.layer_model.specs.Annotations.{Annotations}
-use Rattle.layer_core.specs.WellFormed.{IsWellFormed}
+use Rattle.layer_rules.specs.WellFormed.{IsWellFormed}
 use Rattle.ann_writer.specs.AnnOf.{ann_of}
 use Rattle.unanimous_merge.specs.Items.{items}
 use Rattle.unanimous_merge.specs.Rows.{AreCoherent}

@@ -5,8 +5,8 @@ ghost use Rattle.items_report.specs.ItemsTable.{CanBeListed, files_of};
 
 use crate::ann_lines::AnnLines;
 use ann_writer::ann_bytes;
-use annotation_conf::Conf;
 use char_documents::Doc;
+use conf_model::Conf;
 use layer_model::Snapshot;
 use mark_base::{Bytes, Memory};
 use std::alloc::Global;

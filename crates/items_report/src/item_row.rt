@@ -9,7 +9,7 @@ use crate::holders::{names_among, spaced};
 use crate::table_writer::write_row;
 use csv::Writer;
 use curator_decisions::{Decisions, Verdict};
-use layer_core::id_text;
+use layer_rules::id_text;
 use mark_base::Memory;
 use std::alloc::Global;
 use unanimous_merge::{Item, ItemId};

@@ -1,7 +1,7 @@
 //! The definitions at work on two small files. The function does nothing; its clauses are computed when the crate is
 //! checked.
 ghost use Rattle.std.specs.Prelude.{◌≡◌, ℕ, List, [], ◌∷◌, codes};
-ghost use Rattle.annotation_conf.specs.Configurations.{Configuration};
+ghost use Rattle.conf_model.specs.Configurations.{Configuration};
 ghost use Rattle.curator_decisions.specs.declared.verdict.Verdict.TheVariants as verdict;
 ghost use Rattle.items_report.specs.ItemsTable.{items_table};
 ghost use Rattle.items_report.specs.WorkedItems.{shown_row, span_of};

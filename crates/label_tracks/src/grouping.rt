@@ -4,7 +4,7 @@ ghost use Rattle.std.specs.List.{range_with_len};
 ghost use Rattle.label_tracks.specs.Levels.{AreGroups, group_at, grouping_of, heads};
 
 use crate::levels::{group_number, heads, rolled};
-use annotation_conf::Conf;
+use conf_model::Conf;
 use mark_base::{Memory, TypeId};
 use std::alloc::Global;
 use std::marker::Model;

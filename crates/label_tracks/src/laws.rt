@@ -6,7 +6,7 @@ ghost use Rattle.label_tracks.specs.Labels.{label_at};
 ghost use Rattle.label_tracks.specs.Levels.{grouping_of, rolled};
 ghost use Rattle.label_tracks.specs.WorkedLabels.{spans, types};
 
-use annotation_conf::Conf;
+use conf_model::Conf;
 use mark_base::TypeId;
 
 /// The span that labels a character is one of those that cover it, and none of these comes before it;

@@ -22,7 +22,7 @@ use Rattle.layer_model.specs.Numbers.{NumbersFit, greatest_of}
 use Rattle.layer_model.specs.Layers.{IsLayer, count, greatest, has_number, is_of_kind, with_marked, without_number}
 use Rattle.layer_model.proofs.Maps.{same_list}
 use Rattle.layer_model.proofs.Numbers.{few}
-use Rattle.layer_core.proofs.PlaceLemmas.{is_less, left, right}
+use Rattle.layer_rules.proofs.PlaceLemmas.{is_less, left, right}
 
 -- ---- some entry passes a test
 

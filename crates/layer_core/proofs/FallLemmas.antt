@@ -13,14 +13,14 @@ use Rattle.layer_model.specs.Classes.{letter_place, is_among, ascending}
 use Rattle.layer_model.specs.Layers.{mark_at, numbers}
 use Rattle.mark_base.specs.ReadIds.{id_at}
 use Rattle.layer_model.specs.LayerIds.{id_place, ids_of, ids_of_letter, letters}
-use Rattle.layer_core.specs.MarkRules.{named_by}
-use Rattle.layer_core.specs.LayerRules.{is_id}
+use Rattle.layer_rules.specs.MarkRules.{named_by}
+use Rattle.layer_rules.specs.LayerRules.{is_id}
 use Rattle.layer_core.specs.MadeLayers.{falls, falls_by}
 use Rattle.layer_core.specs.Cascade.{falls_next, same_ids}
 use Rattle.std.proofs.lemmas.Bool.Decides.{nat_tests}
 use Rattle.mark_base.proofs.IdLemmas.{id_at-id}
 use Rattle.layer_model.proofs.IdSets.{has_rank-ascending}
-use Rattle.layer_core.proofs.LawLemmas.{either, same_number, stands}
+use Rattle.layer_rules.proofs.LawLemmas.{either, same_number, stands}
 
 -- ---- two IDs at one place are one
 

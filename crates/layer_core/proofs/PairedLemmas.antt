@@ -7,7 +7,7 @@ use Rattle.std.specs.FinMap as finite
 use Rattle.mark_base.specs.declared.ann_id.AnnId.{AnnId}
 use Rattle.mark_base.specs.declared.ann_id.Kind.{Kind}
 use Rattle.mark_base.specs.declared.ann_id.Kind.TheVariants as letter
-use Rattle.annotation_conf.specs.Configurations.{Configuration}
+use Rattle.conf_model.specs.Configurations.{Configuration}
 use Rattle.layer_model.specs.declared.mark.Mark.{Mark}
 use Rattle.layer_model.specs.declared.mark.Mark.TheVariants as marked
 use Rattle.layer_model.specs.declared.span.Span.{Span}
@@ -15,7 +15,7 @@ use Rattle.layer_model.specs.Annotations.{Annotations}
 use Rattle.layer_model.specs.Layers.{mark_at, mark_of}
 use Rattle.layer_core.specs.CommandRules.{is_span_letter}
 use Rattle.layer_core.specs.MadeLayers.{span_of}
-use Rattle.layer_core.specs.LayerRules.{is_id, refused_overlap}
+use Rattle.layer_rules.specs.LayerRules.{is_id, refused_overlap}
 use Rattle.layer_core.specs.Commands.{other_than}
 
 -- ---- the next of a list

@@ -3,7 +3,7 @@ use Rattle.std.proofs.Common.{◌≡◌, ℕ, ◌≤◌, List, [], ◌∷◌, Op
 use Rattle.std.specs.Option.{option_or}
 use Rattle.std.specs.List.{AllByRecursion}
 use Rattle.mark_base.specs.declared.ann_id.AnnId.{AnnId}
-use Rattle.annotation_conf.specs.Configurations.{Configuration}
+use Rattle.conf_model.specs.Configurations.{Configuration}
 use Rattle.layer_model.specs.declared.rule.Rule.{Rule}
 use Rattle.layer_model.specs.declared.rule.Rule.TheVariants.{OverlapRefused}
 use Rattle.layer_model.specs.declared.flaw.Flaw.{Flaw}
@@ -11,11 +11,11 @@ use Rattle.layer_model.specs.declared.flaw.FlawPlace.{FlawPlace}
 use Rattle.layer_model.specs.Annotations.{Annotations}
 use Rattle.layer_model.specs.Layers.{IsLayer}
 use Rattle.layer_model.specs.RuleNumbers.{number_of}
-use Rattle.layer_core.specs.FlawPlaces.{first_place, first_rule, places}
-use Rattle.layer_core.specs.WellFormed.{least_flaw}
-use Rattle.layer_core.specs.LowestFlaw.{HasGoodSpans, flaw_at, later_rules, single_rules}
-use Rattle.layer_core.proofs.CheckLemmas.{good_spans, in_two}
-use Rattle.layer_core.proofs.RuleNumbers.{Tells, type_tells, use_tells, fragments_tells, text_tells, long_tells, there_tells, kind_tells, role_tells, argument_tells, many_tells, value_tells}
+use Rattle.layer_rules.specs.FlawPlaces.{first_place, first_rule, places}
+use Rattle.layer_rules.specs.WellFormed.{least_flaw}
+use Rattle.layer_rules.specs.LowestFlaw.{HasGoodSpans, flaw_at, later_rules, single_rules}
+use Rattle.layer_rules.proofs.CheckLemmas.{good_spans, in_two}
+use Rattle.layer_rules.proofs.RuleNumbers.{Tells, type_tells, use_tells, fragments_tells, text_tells, long_tells, there_tells, kind_tells, role_tells, argument_tells, many_tells, value_tells}
 
 none_some : {X : Type 0} {x : X} → None ≡ Some x → ⊥
 none_some e = cc

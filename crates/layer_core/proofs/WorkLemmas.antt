@@ -2,14 +2,14 @@
 use Rattle.std.proofs.Common.{◌≡◌, ℕ, ◌<◌, ◌≤◌, zero, suc, List, [], ◌∷◌, length, slice_get, Option, Some, None, Ok, Err, option_and_then, refl, sym, ◌∙◌, ap, subst, arith}
 use Rattle.std.specs.Prelude.{IfOk}
 use Rattle.mark_base.specs.declared.ann_id.AnnId.{AnnId}
-use Rattle.annotation_conf.specs.Configurations.{Configuration}
+use Rattle.conf_model.specs.Configurations.{Configuration}
 use Rattle.layer_model.specs.declared.class.Class.{Class}
 use Rattle.layer_model.specs.declared.rule.Rule.{Rule}
 use Rattle.layer_model.specs.declared.flaw.FlawPlace.TheVariants as at
 use Rattle.layer_model.specs.Annotations.{Annotations}
 use Rattle.layer_core.specs.declared.command.Command.{Command}
-use Rattle.layer_core.specs.LayerRules.{classes_full}
-use Rattle.layer_core.specs.WellFormed.{IsWellFormed}
+use Rattle.layer_rules.specs.LayerRules.{classes_full}
+use Rattle.layer_rules.specs.WellFormed.{IsWellFormed}
 use Rattle.layer_core.specs.MadeLayers.{Draft, draft}
 use Rattle.layer_core.specs.Commands.{Applied, answer_of, applied_of, apply, refusal}
 use Rattle.layer_core.proofs.CommandLemmas.{commands_keep}

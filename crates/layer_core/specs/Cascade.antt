@@ -7,8 +7,8 @@ use Rattle.layer_model.specs.declared.class.Class.{Class}
 use Rattle.layer_model.specs.Annotations.{Annotations}
 use Rattle.layer_model.specs.Classes.{has_rank}
 use Rattle.layer_model.specs.Layers.{mark_at}
-use Rattle.layer_core.specs.LayerRules.{is_id}
-use Rattle.layer_core.specs.MarkRules.{named_by}
+use Rattle.layer_rules.specs.LayerRules.{is_id}
+use Rattle.layer_rules.specs.MarkRules.{named_by}
 
 -- an annotation falls in the next round: it is the one that goes, or it names that one or one that fell before
 abbrev pub falls_next : Annotations → AnnId → List AnnId → AnnId → Bool

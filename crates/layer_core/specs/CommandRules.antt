@@ -10,8 +10,8 @@ use Rattle.mark_base.specs.declared.table_places.TypeId.{TypeId}
 use Rattle.mark_base.specs.declared.arguments.Arg.{Arg}
 use Rattle.mark_base.specs.declared.named_args.NamedArg.{NamedArg}
 use Rattle.type_hierarchy.specs.TypeTrees.{type_named}
-use Rattle.annotation_conf.specs.Configurations.{Configuration}
-use Rattle.annotation_conf.specs.Lookups.{role_named, value_named, attribute_admits, is_equivalence}
+use Rattle.conf_model.specs.Configurations.{Configuration}
+use Rattle.conf_model.specs.Lookups.{role_named, value_named, attribute_admits, is_equivalence}
 use Rattle.layer_model.specs.declared.mark.Mark.{Mark}
 use Rattle.layer_model.specs.declared.mark.Mark.TheVariants.{Attribute}
 use Rattle.layer_model.specs.declared.class.Class.{Class}
@@ -21,9 +21,9 @@ use Rattle.layer_model.specs.declared.rule.RoleAt.TheVariants as role
 use Rattle.layer_model.specs.Annotations.{Annotations}
 use Rattle.layer_model.specs.Layers.{mark_at, greatest}
 use Rattle.layer_model.specs.LayerIds.{ids_of, ids_of_letter}
-use Rattle.layer_core.specs.Targets.{is_event_type, type_of, target_of}
-use Rattle.layer_core.specs.MarkRules.{where_so, is_barred_type, named_by, Wanted, is_bad_value}
-use Rattle.layer_core.specs.LayerRules.{is_id, is_arg, are_bad_members}
+use Rattle.layer_rules.specs.Targets.{is_event_type, type_of, target_of}
+use Rattle.layer_rules.specs.MarkRules.{where_so, is_barred_type, named_by, Wanted, is_bad_value}
+use Rattle.layer_rules.specs.LayerRules.{is_id, is_arg, are_bad_members}
 
 -- the event type of a name
 abbrev pub event_named : Configuration → List ℕ → Option TypeId

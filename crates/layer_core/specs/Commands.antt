@@ -6,8 +6,8 @@ use Rattle.mark_base.specs.declared.ann_id.Kind.{Kind}
 use Rattle.mark_base.specs.declared.ann_id.Kind.TheVariants as letter
 use Rattle.mark_base.specs.declared.fragments.Frag.{Frag}
 use Rattle.type_hierarchy.specs.TypeTrees.{type_named}
-use Rattle.annotation_conf.specs.Configurations.{Configuration}
-use Rattle.annotation_conf.specs.Lookups.{relation_named, attribute_named, values_of}
+use Rattle.conf_model.specs.Configurations.{Configuration}
+use Rattle.conf_model.specs.Lookups.{relation_named, attribute_named, values_of}
 use Rattle.layer_model.specs.declared.mark.Mark.{Mark}
 use Rattle.layer_model.specs.declared.rule.Rule.{Rule}
 use Rattle.layer_model.specs.declared.rule.Rule.TheVariants.{BadFragments, OutOfText, SpanTooLong, UnknownValue, SameSpan, SameEvent, SameRelation, AttributeThere, OverlapRefused}
@@ -18,11 +18,11 @@ use Rattle.layer_core.specs.declared.command.Command.{Command}
 use Rattle.layer_core.specs.declared.command.Command.TheVariants as ask
 use Rattle.overlap_rules.specs.Overlaps.{last_end, reach}
 use Rattle.layer_model.specs.LayerIds.{ids_of}
-use Rattle.layer_core.specs.BadTexts.{are_fragments}
-use Rattle.layer_core.specs.Targets.{is_attribute_target, type_of}
-use Rattle.layer_core.specs.MarkRules.{where_so, first_missing, first_unwanted, Wanted, argument, trigger, member}
-use Rattle.layer_core.specs.LayerRules.{is_id, same_spans, same_events, same_relations, same_attributes, refused_overlap}
-use Rattle.layer_core.specs.WellFormed.{least_flaw}
+use Rattle.layer_rules.specs.BadTexts.{are_fragments}
+use Rattle.layer_rules.specs.Targets.{is_attribute_target, type_of}
+use Rattle.layer_rules.specs.MarkRules.{where_so, first_missing, first_unwanted, Wanted, argument, trigger, member}
+use Rattle.layer_rules.specs.LayerRules.{is_id, same_spans, same_events, same_relations, same_attributes, refused_overlap}
+use Rattle.layer_rules.specs.WellFormed.{least_flaw}
 use Rattle.layer_core.specs.CommandRules.{event_named, undeclared, barred, no_equivalence, of_letters, is_span_letter, is_event_letter, is_attribute_letter, in_use, trigger_in_use, used_up, roles_undeclared, event_type, no_such_argument, value_of, value_refused, attribute_on, attribute_same, target_refused, members_refused, not_in_class}
 use Rattle.layer_core.specs.MadeLayers.{Draft, draft, is_note_on, is_reference_to, lowest}
 

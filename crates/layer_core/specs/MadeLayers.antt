@@ -9,8 +9,8 @@ use Rattle.mark_base.specs.declared.ann_id.Kind.TheVariants as letter
 use Rattle.mark_base.specs.declared.table_places.AttrId.{AttrId}
 use Rattle.mark_base.specs.declared.arguments.Arg.{Arg}
 use Rattle.type_hierarchy.specs.TypeTrees.{type_named}
-use Rattle.annotation_conf.specs.Configurations.{Configuration}
-use Rattle.annotation_conf.specs.Lookups.{relation_named, attribute_named}
+use Rattle.conf_model.specs.Configurations.{Configuration}
+use Rattle.conf_model.specs.Lookups.{relation_named, attribute_named}
 use Rattle.layer_model.specs.declared.mark.Mark.{Mark}
 use Rattle.layer_model.specs.declared.mark.Mark.TheVariants.{Span, Event, Relation, Attribute, Normal, Note}
 use Rattle.layer_model.specs.declared.span.Span as span_record
@@ -24,8 +24,8 @@ use Rattle.layer_core.specs.declared.command.Command.{Command}
 use Rattle.layer_core.specs.declared.command.Command.TheVariants as ask
 use Rattle.mark_base.specs.ReadIds.{id_at}
 use Rattle.layer_model.specs.LayerIds.{ids_of, ids_of_letter}
-use Rattle.layer_core.specs.MarkRules.{named_by}
-use Rattle.layer_core.specs.LayerRules.{is_id, is_arg}
+use Rattle.layer_rules.specs.MarkRules.{named_by}
+use Rattle.layer_rules.specs.LayerRules.{is_id, is_arg}
 use Rattle.layer_core.specs.CommandRules.{event_named, is_span_letter, is_event_letter, is_relation_letter, first_naming, is_in_trigger, args_named, arg_named, Valued, Undeclared, Declared, value_of, attribute_on}
 
 -- a layer that a command makes, the annotation that is new or changed in it, and whether it is new

@@ -1,7 +1,7 @@
 -- A layer that is worked on, with the configuration and the text that it is for.
 use Rattle.std.specs.Prelude.{◌≡◌, ℕ, List, Err, ⊤, refl}
 use Rattle.std.specs.Coded.{Coded, code_by, coded×, coded_ℕ, coded_list}
-use Rattle.annotation_conf.specs.Configurations.{Configuration, configuration_code}
+use Rattle.conf_model.specs.Configurations.{Configuration, configuration_code}
 use Rattle.layer_model.specs.Annotations.{Annotations, annotations_code}
 use Rattle.layer_core.specs.declared.command.Command.{Command}
 use Rattle.layer_core.specs.declared.refusal.Refusal.{Refusal}

@@ -3,7 +3,7 @@ ghost use Rattle.std.specs.Prelude.{◌≡◌};
 ghost use Rattle.layer_core.specs.CommandRules.{has_value, value_of, value_refused};
 ghost use Rattle.layer_core.specs.AttributeValue.{valued_of};
 
-use annotation_conf::Conf;
+use conf_model::Conf;
 use mark_base::{AttrId, Name};
 
 /// The value that a command gives to an attribute: a name that is not declared, or none, or a declared

@@ -7,11 +7,11 @@ ghost use Rattle.layer_model.specs.declared.mark.Mark.{Mark};
 ghost use Rattle.layer_core.specs.MadeLayers.{falls};
 ghost use Rattle.layer_core.specs.Cascade.{falls_next, same_ids};
 ghost use Rattle.layer_model.specs.LayerIds.{ids_of};
-ghost use Rattle.layer_core.specs.LayerRules.{is_id};
-ghost use Rattle.layer_core.specs.MarkRules.{named_by};
+ghost use Rattle.layer_rules.specs.LayerRules.{is_id};
+ghost use Rattle.layer_rules.specs.MarkRules.{named_by};
 
-use crate::targets::is_id;
 use layer_model::{Event, IdSet, Layer, id_at, ids_of};
+use layer_rules::is_id;
 use mark_base::{AnnId, Arg, Kind, Memory};
 use std::alloc::Global;
 

@@ -1,10 +1,10 @@
 //! What commands keep.
 ghost use Rattle.std.specs.Prelude.{◌≡◌, ℕ, IfOk};
-ghost use Rattle.annotation_conf.specs.Configurations.{Configuration};
+ghost use Rattle.conf_model.specs.Configurations.{Configuration};
 ghost use Rattle.layer_model.specs.Annotations.{Annotations};
 ghost use Rattle.layer_core.specs.declared.command.Command.{Command};
 ghost use Rattle.layer_core.specs.Commands.{apply};
-ghost use Rattle.layer_core.specs.WellFormed.{IsWellFormed};
+ghost use Rattle.layer_rules.specs.WellFormed.{IsWellFormed};
 
 /// A command makes a well-formed layer of a well-formed one, for every configuration and every text of so
 /// many characters.

@@ -1,14 +1,13 @@
 //! What the names in a command stand for.
 ghost use Rattle.std.specs.Prelude.{◌≡◌, IfOk, is_none, option_map};
 ghost use Rattle.std.specs.List.{list_any};
-ghost use Rattle.annotation_conf.specs.Lookups.{attribute_named, relation_named};
+ghost use Rattle.conf_model.specs.Lookups.{attribute_named, relation_named};
 ghost use Rattle.type_hierarchy.specs.TypeTrees.{type_named};
 ghost use Rattle.layer_core.specs.CommandRules.{arg_named, args_named, barred, event_named, no_equivalence, role_undeclared, roles_undeclared, undeclared};
 
-use crate::mark_rules::{barred_class, barred_type};
-use crate::targets::is_event_type;
-use annotation_conf::Conf;
+use conf_model::Conf;
 use layer_model::Rule;
+use layer_rules::{barred_class, barred_type, is_event_type};
 use mark_base::{Arg, Memory, Name, NamedArg, TypeId};
 use std::alloc::Global;
 

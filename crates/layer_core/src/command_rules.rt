@@ -2,30 +2,29 @@
 ghost use Rattle.std.specs.Prelude.{◌≡◌, ◌∷◌, [], IfOk, List, Some, map, option_and_then};
 ghost use Rattle.std.specs.List.{list_any};
 ghost use Rattle.mark_base.specs.declared.fragments.Frag.{Frag};
-ghost use Rattle.annotation_conf.specs.Lookups.{relation_named};
+ghost use Rattle.conf_model.specs.Lookups.{relation_named};
 ghost use Rattle.layer_core.specs.declared.command.Command.{Command};
 ghost use Rattle.layer_model.specs.declared.rule.Rule.{Rule};
 ghost use Rattle.layer_core.specs.Commands.{first_broken, frags_rule, moved_rule, new_used_up, own_rules, value_unknown};
 ghost use Rattle.layer_core.specs.CommandRules.{event_type, has_value, is_attribute_letter, is_event_letter, is_in_class, is_span_letter, members_refused, no_such_argument, not_in_class, of_letters, roles_undeclared, target_refused, used_up, value_at};
-ghost use Rattle.layer_core.specs.LayerRules.{is_arg, is_id};
-ghost use Rattle.layer_core.specs.MarkRules.{argument, first_missing, first_unwanted, trigger, where_so};
+ghost use Rattle.layer_rules.specs.LayerRules.{is_arg, is_id};
+ghost use Rattle.layer_rules.specs.MarkRules.{argument, first_missing, first_unwanted, trigger, where_so};
 ghost use Rattle.layer_core.specs.AttributeValue.{valued_of};
 
 use crate::Command;
 use crate::attribute_value::{Valued, is_had, is_refused, value_of};
-use crate::class_rules::are_bad_members;
 use crate::command_names::{
     arg_named, barred, event_named, no_equivalence, role_unknown, undeclared_attribute,
     undeclared_relation, undeclared_type,
 };
 use crate::first_annotation::{attribute_on, first_note, first_reference, in_use, trigger_in_use};
 use crate::made_layers::is_arg;
-use crate::mark_rules::{
-    LONGEST_REACH, last_end, missing, missing_ids, unwanted, unwanted_members, where_so,
-};
-use crate::targets::{is_argument, is_attribute_target, is_id, is_member, is_trigger, target_of};
-use annotation_conf::Conf;
+use conf_model::Conf;
 use layer_model::{Class, Layer, RoleAt, Rule};
+use layer_rules::{
+    LONGEST_REACH, are_bad_members, is_argument, is_attribute_target, is_id, is_member, is_trigger,
+    last_end, missing, missing_ids, target_of, unwanted, unwanted_members, where_so,
+};
 use mark_base::{AnnId, Arg, AttrId, Frag, Kind, Memory, Name, NamedArg, RelId, TypeId};
 use overlap_rules::{are_ascending, reach};
 use std::alloc::Global;

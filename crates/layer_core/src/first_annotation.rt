@@ -9,15 +9,15 @@ ghost use Rattle.layer_model.specs.declared.mark.Mark.{Mark};
 ghost use Rattle.layer_model.specs.Layers.{is_of_kind, mark_at};
 ghost use Rattle.mark_base.specs.ReadIds.{id_at};
 ghost use Rattle.layer_model.specs.LayerIds.{ids_of, ids_of_letter};
-ghost use Rattle.layer_core.specs.LayerRules.{is_id};
-ghost use Rattle.layer_core.specs.MarkRules.{named_by};
+ghost use Rattle.layer_rules.specs.LayerRules.{is_id};
+ghost use Rattle.layer_rules.specs.MarkRules.{named_by};
 ghost use Rattle.layer_core.specs.MadeLayers.{event_of, is_note_on, is_reference_to, lowest, relation_of, span_of};
 ghost use Rattle.layer_core.specs.CommandRules.{attribute_on, first_naming, in_use, is_attribute_on, is_in_trigger, trigger_in_use};
 
-use crate::targets::is_id;
 use layer_model::{
     Attribute, Event, Layer, Relation, Rule, Span, id_at, ids_of, ids_of_letter, push_ids,
 };
+use layer_rules::is_id;
 use mark_base::{AnnId, Arg, AttrId, Kind, Memory, Name};
 use std::alloc::Global;
 use std::collections::BTreeMap;

@@ -5,7 +5,7 @@ ghost use Rattle.layer_model.specs.Layers.{is_of_kind};
 ghost use Rattle.mark_base.specs.declared.ann_id.Kind.{Kind};
 ghost use Rattle.layer_core.specs.declared.command.Command.{Command};
 ghost use Rattle.layer_core.specs.MadeLayers.{draft, with_args, with_attribute, with_changed, with_new, without_first};
-ghost use Rattle.layer_core.specs.LayerRules.{is_arg};
+ghost use Rattle.layer_rules.specs.LayerRules.{is_arg};
 ghost use Rattle.layer_core.specs.CommandRules.{is_span_letter};
 ghost use Rattle.layer_core.specs.DraftShows.{draft_of};
 
@@ -18,9 +18,9 @@ use crate::first_annotation::{
     attribute_on, event_of, first_naming, first_note, first_reference, is_in_trigger, span_of,
 };
 use crate::removal::{take_all_away, take_away};
-use crate::targets::is_id;
-use annotation_conf::Conf;
+use conf_model::Conf;
 use layer_model::{Attribute, Event, Layer, Mark, Normal, Note, Relation, Span};
+use layer_rules::is_id;
 use mark_base::{
     AnnId, Arg, ArgList, AttrId, FragList, IdList, Kind, Memory, Name, NamedArg, Text,
 };

@@ -7,13 +7,13 @@ ghost use Rattle.layer_model.specs.declared.mark.Mark.{Mark};
 ghost use Rattle.layer_model.specs.declared.rule.Rule.{Rule};
 ghost use Rattle.overlap_rules.specs.Overlaps.{are_ascending};
 ghost use Rattle.layer_core.specs.Commands.{other_of, other_than, told_of};
-ghost use Rattle.layer_core.specs.LayerRules.{is_arg, is_id, refused_overlap, same_attributes, same_bag, same_events, same_relations, same_spans};
-ghost use Rattle.layer_core.specs.LowestFlaw.{HasGoodSpans};
+ghost use Rattle.layer_rules.specs.LayerRules.{is_arg, is_id, refused_overlap, same_attributes, same_bag, same_events, same_relations, same_spans};
+ghost use Rattle.layer_rules.specs.LowestFlaw.{HasGoodSpans};
 
 use crate::first_annotation::{event_of, relation_of, span_of};
-use crate::targets::is_id;
-use annotation_conf::Conf;
+use conf_model::Conf;
 use layer_model::{Attribute, Event, Layer, Relation, Rule, Span, ids_of, same_fragments};
+use layer_rules::is_id;
 use mark_base::{AnnId, Arg, Kind, Memory};
 use overlap_rules::kind_of;
 use std::alloc::Global;
@@ -98,7 +98,7 @@ fn are_same_attributes(a: &Attribute, b: &Attribute) -> bool
 struct SameSpans;
 
 impl Pairs for SameSpans {
-    ghost use Rattle.layer_core.specs.LayerRules.{same_spans};
+    ghost use Rattle.layer_rules.specs.LayerRules.{same_spans};
 
     ghost told = { λ pairs. same_spans };
 
@@ -114,7 +114,7 @@ impl Pairs for SameSpans {
 struct SameEvents;
 
 impl Pairs for SameEvents {
-    ghost use Rattle.layer_core.specs.LayerRules.{same_events};
+    ghost use Rattle.layer_rules.specs.LayerRules.{same_events};
 
     ghost told = { λ pairs. same_events };
 
@@ -130,7 +130,7 @@ impl Pairs for SameEvents {
 struct SameRelations;
 
 impl Pairs for SameRelations {
-    ghost use Rattle.layer_core.specs.LayerRules.{same_relations};
+    ghost use Rattle.layer_rules.specs.LayerRules.{same_relations};
 
     ghost told = { λ pairs. same_relations };
 
@@ -146,7 +146,7 @@ impl Pairs for SameRelations {
 struct SameAttributes;
 
 impl Pairs for SameAttributes {
-    ghost use Rattle.layer_core.specs.LayerRules.{same_attributes};
+    ghost use Rattle.layer_rules.specs.LayerRules.{same_attributes};
 
     ghost told = { λ pairs. same_attributes };
 

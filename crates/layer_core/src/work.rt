@@ -1,21 +1,22 @@
 //! A layer that commands change.
 ghost use Rattle.std.specs.Prelude.{◌≡◌, ◌<◌, IfOk, IfErr, OnErr, Ok, Some, length, option_map, option_and_then};
 ghost use Rattle.std.specs.Arc.{arc_value};
-ghost use Rattle.layer_core.specs.CheckFaults.{IsCheckFault};
+ghost use Rattle.layer_rules.specs.CheckFaults.{IsCheckFault};
 ghost use Rattle.layer_core.specs.Commands.{applied_of, apply, draft_rule, lower_rule, made_by, refusal};
 ghost use Rattle.layer_core.specs.MadeLayers.{draft};
 ghost use Rattle.layer_core.specs.DraftShows.{draft_of};
-ghost use Rattle.layer_core.specs.WellFormed.{IsWellFormed, least_flaw};
+ghost use Rattle.layer_rules.specs.WellFormed.{IsWellFormed, least_flaw};
 ghost use Rattle.layer_core.specs.Works.{IsRefusal};
 
 use crate::command_rules::{moved_rule, own_rule};
 use crate::draft::Draft;
 use crate::made_layers::draft;
 use crate::named_in_refusal::told_of;
-use crate::{CheckFault, Command, Refusal, check};
-use annotation_conf::Conf;
+use crate::{Command, Refusal};
 use char_documents::Doc;
+use conf_model::Conf;
 use layer_model::{Flaw, Layer, Rule};
+use layer_rules::{CheckFault, check};
 use mark_base::{AnnId, Memory};
 use std::alloc::Global;
 use std::marker::Model;
@@ -39,7 +40,7 @@ pub struct Work {
 impl Model for Work {
     ghost use Rattle.std.specs.Prelude.{length};
     ghost use Rattle.std.specs.Arc.{arc_value};
-    ghost use Rattle.layer_core.specs.WellFormed.{IsWellFormed};
+    ghost use Rattle.layer_rules.specs.WellFormed.{IsWellFormed};
     ghost use Rattle.layer_core.specs.Works.{WorkState, work_code};
 
     ghost Value = { WorkState };

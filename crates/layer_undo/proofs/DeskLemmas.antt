@@ -6,7 +6,7 @@ use Rattle.std.proofs.lemmas.Bool.{cases_lt, cond-true, cond-false, false≢true
 use Rattle.std.proofs.lemmas.List.{append-nil, length-append}
 use Rattle.std.proofs.lemmas.Option.{none-some, slice_get_within}
 use Rattle.mark_base.specs.declared.ann_id.AnnId.{AnnId}
-use Rattle.annotation_conf.specs.Configurations.{Configuration}
+use Rattle.conf_model.specs.Configurations.{Configuration}
 use Rattle.layer_model.specs.declared.rule.Rule.TheVariants.{DeskFull}
 use Rattle.layer_model.specs.Annotations.{Annotations}
 use Rattle.layer_core.specs.declared.command.Command.{Command}

@@ -4,13 +4,13 @@ use Rattle.std.specs.Prelude.{IsOk, is_ok, suc, slice_get, nat_lt, replicate, re
 use Rattle.std.specs.Result.{result_ok}
 use Rattle.std.proofs.lemmas.Bool.{false≢true, ltb-true}
 use Rattle.std.proofs.lemmas.List.{append-nil, append_assoc, reverse-append, length_push, take_at}
-use Rattle.annotation_conf.specs.Configurations.{Configuration}
+use Rattle.conf_model.specs.Configurations.{Configuration}
 use Rattle.layer_model.specs.declared.rule.Rule.{Rule}
 use Rattle.layer_model.specs.declared.rule.Rule.TheVariants.{DeskFull, NothingToUndo, NothingToRedo}
 use Rattle.layer_model.specs.Annotations.{Annotations}
 use Rattle.layer_core.specs.declared.command.Command.{Command}
 use Rattle.layer_core.specs.Commands.{Applied, apply}
-use Rattle.layer_core.specs.WellFormed.{IsWellFormed}
+use Rattle.layer_rules.specs.WellFormed.{IsWellFormed}
 use Rattle.layer_undo.specs.Replays.{Outcome, next, replay_from, replay}
 use Rattle.layer_undo.specs.Desks.{DeskState, IsDesk, layer_of, with_scripts, last_of, but_last, Performed, performed, taken_in, after_undo, after_redo}
 use Rattle.layer_undo.specs.Calls.{Call, Perform, Undo, Redo, Settle, after_call, after_calls}

@@ -4,7 +4,7 @@ use Rattle.std.specs.Prelude.{IsOk, is_ok, suc, nat_lt, reverse, slice_get, ifâ—
 use Rattle.std.specs.Result.{result_err}
 use Rattle.std.proofs.lemmas.List.{append_assoc, length-append, reverse-append}
 use Rattle.std.proofs.lemmas.Bool.{falseâ‰¢true}
-use Rattle.annotation_conf.specs.Configurations.{Configuration}
+use Rattle.conf_model.specs.Configurations.{Configuration}
 use Rattle.layer_model.specs.declared.rule.Rule.{Rule}
 use Rattle.layer_model.specs.declared.rule.Rule.TheVariants.{DeskFull}
 use Rattle.layer_model.specs.Annotations.{Annotations}

@@ -3,14 +3,14 @@ use Rattle.std.specs.Prelude.{◌≡◌, ℕ, List, [], ◌∷◌, ◌++◌, ◌
 use Rattle.std.specs.Result.{result_ok}
 use Rattle.std.specs.Coded.{Coded, code_by, coded×, coded_ℕ, coded_list}
 use Rattle.mark_base.specs.declared.ann_id.AnnId.{AnnId}
-use Rattle.annotation_conf.specs.Configurations.{Configuration, configuration_code}
+use Rattle.conf_model.specs.Configurations.{Configuration, configuration_code}
 use Rattle.layer_model.specs.declared.rule.Rule.{Rule}
 use Rattle.layer_model.specs.declared.rule.Rule.TheVariants.{DeskFull, NothingToUndo, NothingToRedo}
 use Rattle.layer_model.specs.Annotations.{Annotations, annotations_code}
 use Rattle.layer_core.specs.declared.command.Command.{Command}
 use Rattle.layer_core.specs.contracts.command.Command as command_row
 use Rattle.layer_core.specs.Commands.{Applied, apply}
-use Rattle.layer_core.specs.WellFormed.{IsWellFormed}
+use Rattle.layer_rules.specs.WellFormed.{IsWellFormed}
 use Rattle.layer_core.specs.Works.{WorkState}
 use Rattle.layer_undo.specs.Replays.{first_refusal, replay}
 

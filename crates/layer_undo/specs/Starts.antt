@@ -1,14 +1,14 @@
 -- What the refusals of a desk say.
 use Rattle.std.specs.Prelude.{◌≡◌, ℕ, List, Some, Result, Err, ⊤}
-use Rattle.annotation_conf.specs.Configurations.{Configuration}
+use Rattle.conf_model.specs.Configurations.{Configuration}
 use Rattle.layer_model.specs.declared.rule.Rule.{Rule}
 use Rattle.layer_model.specs.Annotations.{Annotations}
 use Rattle.layer_core.specs.declared.command.Command.{Command}
 use Rattle.layer_core.specs.declared.refusal.Refusal.{Refusal}
 use Rattle.layer_core.specs.declared.refusal.Refusal.TheVariants as refused
-use Rattle.layer_core.specs.declared.check_fault.CheckFault.{CheckFault}
-use Rattle.layer_core.specs.declared.check_fault.CheckFault.TheVariants as fault
-use Rattle.layer_core.specs.WellFormed.{IsWellFormed, least_flaw}
+use Rattle.layer_rules.specs.declared.check_fault.CheckFault.{CheckFault}
+use Rattle.layer_rules.specs.declared.check_fault.CheckFault.TheVariants as fault
+use Rattle.layer_rules.specs.WellFormed.{IsWellFormed, least_flaw}
 use Rattle.layer_undo.specs.declared.desk_start.DeskStart.{DeskStart}
 use Rattle.layer_undo.specs.declared.desk_start.DeskStart.TheVariants.{Base, At, Memory}
 use Rattle.layer_undo.specs.Replays.{Outcome, first_refusal}

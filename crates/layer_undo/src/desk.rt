@@ -2,7 +2,7 @@
 ghost use Rattle.std.specs.Prelude.{◌≡◌, [], ◌∷◌, ◌++◌, ◌<◌, IfErr, IfOk, OnErr, OnOk, Ok, length};
 ghost use Rattle.std.specs.Arc.{arc_value};
 ghost use Rattle.std.specs.Vec.{vec_len, vec_capacity};
-ghost use Rattle.layer_core.specs.WellFormed.{IsWellFormed};
+ghost use Rattle.layer_rules.specs.WellFormed.{IsWellFormed};
 ghost use Rattle.layer_undo.specs.Desks.{IsDesk, after_redo, after_undo, layer_of, performed, settled};
 ghost use Rattle.layer_undo.specs.Replays.{replay};
 ghost use Rattle.layer_undo.specs.Starts.{IsDeskStart, IsRefused};
@@ -11,8 +11,8 @@ use crate::replay::{reopen_with, repeat_last};
 use crate::script_moves::{make_room, move_last};
 use crate::scripts::{MOST_COMMANDS, try_scripts};
 use crate::{DeskStart, Script};
-use annotation_conf::Conf;
 use char_documents::Doc;
+use conf_model::Conf;
 use layer_core::{Command, Done, Refusal, Work};
 use layer_model::{Layer, Rule};
 use mark_base::Memory;

@@ -1,6 +1,6 @@
 //! Why a desk is not opened.
-use layer_core::CheckFault;
 use layer_model::{Flaw, Rule};
+use layer_rules::CheckFault;
 use mark_base::Memory;
 
 /// Why a desk is not opened.

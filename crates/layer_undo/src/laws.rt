@@ -1,7 +1,7 @@
 //! Laws of desks. Each function but for a call of a law below does nothing; its contract is the law.
 ghost use Rattle.std.specs.Prelude.{◌≡◌, List, [], ◌∷◌, ◌++◌, IfOk, Ok, length, replicate, reverse};
 ghost use Rattle.layer_core.specs.declared.command.Command.{Command};
-ghost use Rattle.layer_core.specs.WellFormed.{IsWellFormed};
+ghost use Rattle.layer_rules.specs.WellFormed.{IsWellFormed};
 ghost use Rattle.layer_undo.specs.Calls.{Call, after_calls};
 ghost use Rattle.layer_undo.specs.Desks.{DeskState, IsDesk, Performed, after_redo, after_undo, layer_of, performed, with_scripts};
 ghost use Rattle.layer_undo.specs.Replays.{replay};

@@ -1,18 +1,19 @@
 //! Commands that are carried out in turn on a layer.
 ghost use Rattle.std.specs.Prelude.{◌≡◌, ◌+◌, ◌<◌, ◌∷◌, [], ◌≤◌, ℕ, IfOk, IfErr, IsOk, OnErr, OnOk, Ok, Some, length, reverse};
 ghost use Rattle.std.specs.Arc.{arc_value};
-ghost use Rattle.layer_core.specs.CheckFaults.{IsCheckFault};
-ghost use Rattle.layer_core.specs.WellFormed.{IsWellFormed};
+ghost use Rattle.layer_rules.specs.CheckFaults.{IsCheckFault};
+ghost use Rattle.layer_rules.specs.WellFormed.{IsWellFormed};
 ghost use Rattle.layer_core.specs.declared.command.Command.{Command};
 ghost use Rattle.layer_undo.specs.Desks.{last_of};
 ghost use Rattle.layer_undo.specs.Replays.{replay, replay_from};
 ghost use Rattle.layer_undo.specs.Starts.{IsStop, IsWantOfMemory};
 
 use crate::DeskStart;
-use annotation_conf::Conf;
 use char_documents::Doc;
-use layer_core::{CheckFault, Command, Refusal, Work, unflawed_layers};
+use conf_model::Conf;
+use layer_core::{Command, Refusal, Work};
 use layer_model::Layer;
+use layer_rules::{CheckFault, unflawed_layers};
 use mark_base::Memory;
 use std::alloc::Global;
 use std::sync::Arc;

@@ -1,15 +1,15 @@
 //! Two scripts, tried on a layer.
 ghost use Rattle.std.specs.Prelude.{◌≡◌, ◌≤◌, ◌+◌, ◌++◌, IfErr, IfOk, IsOk, None, Ok, OnOk, length, nat_lt, reverse};
 ghost use Rattle.std.specs.Arc.{arc_value};
-ghost use Rattle.layer_core.specs.WellFormed.{IsWellFormed};
+ghost use Rattle.layer_rules.specs.WellFormed.{IsWellFormed};
 ghost use Rattle.layer_undo.specs.Desks.{IsWorkOf};
 ghost use Rattle.layer_undo.specs.Replays.{first_refusal, replay_from};
 ghost use Rattle.layer_undo.specs.Starts.{IsDeskStart, IsStop};
 
 use crate::replay::{open_copy, reopen, replay_back, replay_forward};
 use crate::{DeskStart, Script};
-use annotation_conf::Conf;
 use char_documents::Doc;
+use conf_model::Conf;
 use layer_core::{Command, Work};
 use layer_model::{Layer, Rule};
 use std::alloc::Global;

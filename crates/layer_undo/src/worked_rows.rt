@@ -2,7 +2,7 @@
 //! crate is checked.
 ghost use Rattle.std.specs.Prelude.{◌≡◌, ℕ, [], ◌∷◌, Some, Ok, Err, replicate};
 ghost use Rattle.std.specs.Result.{result_err};
-ghost use Rattle.annotation_conf.specs.Configurations.{Configuration};
+ghost use Rattle.conf_model.specs.Configurations.{Configuration};
 ghost use Rattle.layer_model.specs.Annotations.{Annotations};
 ghost use Rattle.layer_model.specs.declared.rule.Rule.{Rule};
 ghost use Rattle.layer_core.specs.declared.command.Command.{Command};

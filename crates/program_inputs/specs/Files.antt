@@ -2,9 +2,9 @@
 use Rattle.std.specs.Prelude.{◌≡◌, ℕ, ◌<◌, ◌≤◌, false, true, List, length, Option, Some, None, IfSome, IsSomeAnd, Ok, Err, ⊤}
 use Rattle.std.specs.Str.{chars, is_utf8}
 use Rattle.mark_base.specs.Streams.{Rose}
-use Rattle.annotation_conf.specs.Configurations.{Configuration}
-use Rattle.annotation_conf.specs.ConfOf.{conf_of}
-use Rattle.annotation_conf.specs.declared.conf_fault.ConfWhat.{ConfWhat}
+use Rattle.conf_model.specs.Configurations.{Configuration}
+use Rattle.conf_model.specs.ConfOf.{conf_of}
+use Rattle.conf_model.specs.declared.conf_fault.ConfWhat.{ConfWhat}
 use Rattle.layer_model.specs.Annotations.{Annotations}
 use Rattle.ann_reader.specs.declared.ann_fault.AnnWhat.{AnnWhat}
 use Rattle.ann_reader.specs.AnnFaults.{ann_fault}

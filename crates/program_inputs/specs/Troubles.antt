@@ -3,8 +3,8 @@ use Rattle.std.specs.Prelude.{◌≡◌, ℕ, ◌⊎◌, Bool, List, [], ◌++�
 use Rattle.std.specs.Option.{option_map_or}
 use Rattle.std.specs.Io.KnownBytes.{Appends}
 use Rattle.mark_base.specs.Streams.{AppendsFront, Rose}
-use Rattle.annotation_conf.specs.declared.conf_fault.ConfWhat.{ConfWhat}
-use Rattle.annotation_conf.specs.ConfFaultNames.{conf_name}
+use Rattle.conf_model.specs.declared.conf_fault.ConfWhat.{ConfWhat}
+use Rattle.conf_model.specs.ConfFaultNames.{conf_name}
 use Rattle.ann_reader.specs.declared.ann_fault.AnnWhat.{AnnWhat}
 use Rattle.ann_reader.specs.declared.ann_fault.AnnWhat.TheVariants as ann
 use Rattle.layer_model.specs.RuleNames.{rule_name}
@@ -14,7 +14,7 @@ use Rattle.token_columns.specs.declared.column_fault.ColumnOut.{ColumnOut}
 use Rattle.token_columns.specs.declared.column_fault.ColumnOut.TheVariants as out
 use Rattle.token_columns.specs.FaultNames.{out_name}
 use Rattle.mark_base.specs.declared.ann_id.AnnId.{AnnId}
-use Rattle.layer_core.specs.NamedByRule.{id_text}
+use Rattle.layer_rules.specs.NamedByRule.{id_text}
 use Rattle.project_machine.specs.declared.roster_fault.RosterFault.{RosterFault}
 use Rattle.project_machine.specs.declared.roster_fault.RosterFault.TheVariants as people
 use Rattle.roster_file.specs.declared.roster_read.RosterRead.{RosterRead}

@@ -1,6 +1,6 @@
 //! What is said of a run, on a few examples.
 ghost use Rattle.std.specs.Prelude.{◌≡◌, true, false, codes};
-ghost use Rattle.annotation_conf.specs.declared.conf_fault.ConfWhat.{ConfWhat};
+ghost use Rattle.conf_model.specs.declared.conf_fault.ConfWhat.{ConfWhat};
 ghost use Rattle.layer_model.specs.declared.rule.Rule.{Rule};
 ghost use Rattle.mark_base.specs.declared.ann_id.Kind.{Kind};
 ghost use Rattle.mark_base.specs.ReadIds.{id_at};

@@ -6,8 +6,9 @@ ghost use Rattle.program_inputs.specs.Files.{AnnRefused, ColumnsRefused, ConfRef
 use crate::folder::{Folder, FolderFault};
 use crate::trouble::Trouble;
 use ann_reader::{AnnFault, read_ann};
-use annotation_conf::{Conf, ConfFault, read_conf};
+use annotation_conf::read_conf;
 use char_documents::{Doc, DocFault};
+use conf_model::{Conf, ConfFault};
 use layer_model::Layer;
 use mark_base::Bytes;
 use roster_file::{Roster, RosterRead, read_roster};

@@ -4,9 +4,9 @@ ghost use Rattle.program_inputs.specs.declared.trouble.Trouble.TheVariants;
 ghost use Rattle.program_inputs.specs.Troubles.{ann_name, at_line, at_row, column_name, fixed_line, made_line, out_line, people_line, refused_line, roster_line, status_of, with_id, with_number};
 
 use ann_reader::AnnWhat;
-use annotation_conf::ConfWhat;
+use conf_model::ConfWhat;
 use http_answers::refusal_name;
-use layer_core::id_text;
+use layer_rules::id_text;
 use mark_base::{AnnId, Memory};
 use project_machine::BookRefusal;
 use roster_file::{RosterFault, RosterRead};

@@ -10,8 +10,8 @@ use Rattle.mark_base.specs.Names.{slug_fault}
 use Rattle.entry_bytes.specs.declared.person.Person.{Person}
 use Rattle.entry_bytes.specs.Fields.{IsSlug}
 use Rattle.type_hierarchy.specs.TypeFaults.{bad_parent, fault_of, name_twice}
-use Rattle.annotation_conf.specs.ConfText.{conf_text}
-use Rattle.annotation_conf.specs.Sound.{IsSound}
+use Rattle.conf_model.specs.ConfText.{conf_text}
+use Rattle.conf_model.specs.Sound.{IsSound}
 use Rattle.project_machine.specs.History.{encoded, unfounded}
 use Rattle.project_machine.specs.Legal.{legal_founding}
 use Rattle.project_machine.specs.Opening.{IsBegun}

@@ -12,8 +12,8 @@ use Rattle.entry_bytes.specs.declared.entry.Entry.TheVariants as entry
 use Rattle.entry_bytes.specs.declared.person.Person.{Person}
 use Rattle.entry_bytes.specs.Entries.{entry_bytes, IsEntry}
 use Rattle.entry_bytes.specs.Fields.{slug_bytes, text_bytes, ArePeople, IsSlug, IsText}
-use Rattle.annotation_conf.specs.ConfText.{conf_text}
-use Rattle.annotation_conf.specs.Configurations.{Configuration}
+use Rattle.conf_model.specs.ConfText.{conf_text}
+use Rattle.conf_model.specs.Configurations.{Configuration}
 use Rattle.layer_model.specs.Annotations.{Annotations}
 use Rattle.layer_model.specs.Classes.{letter_place}
 use Rattle.ann_writer.specs.AnnOf.{ann_of}

@@ -5,9 +5,9 @@ use Rattle.std.proofs.lemmas.Bool.{ltb-false, or_parts}
 use Rattle.entry_bytes.specs.declared.entry.Entry.{Entry}
 use Rattle.entry_bytes.specs.declared.person.Person.{Person}
 use Rattle.entry_bytes.specs.Entries.{entry_bytes}
-use Rattle.annotation_conf.specs.Configurations.{Configuration}
-use Rattle.annotation_conf.specs.ConfText.{conf_text}
-use Rattle.annotation_conf.specs.Sound as configuration
+use Rattle.conf_model.specs.Configurations.{Configuration}
+use Rattle.conf_model.specs.ConfText.{conf_text}
+use Rattle.conf_model.specs.Sound as configuration
 use Rattle.label_tracks.specs.Levels.{Grouping, grouping_of}
 use Rattle.kappa_alpha.specs.Standing.{Standing}
 use Rattle.project_journal.specs.Keeper.{IsEntry, IsKeptOrDoubt, IsKeptOrOneMore}

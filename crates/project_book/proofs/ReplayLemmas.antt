@@ -7,8 +7,8 @@ use Rattle.entry_bytes.specs.declared.entry.Entry.{Entry}
 use Rattle.entry_bytes.specs.declared.entry.Entry.TheVariants as entry
 use Rattle.entry_bytes.specs.declared.person.Person.{Person}
 use Rattle.entry_bytes.specs.Entries.{entry_bytes, IsEntry}
-use Rattle.annotation_conf.specs.Configurations.{Configuration}
-use Rattle.annotation_conf.specs.ConfText.{conf_text}
+use Rattle.conf_model.specs.Configurations.{Configuration}
+use Rattle.conf_model.specs.ConfText.{conf_text}
 use Rattle.project_machine.specs.ProjectState.{ProjectState, is_some_out}
 use Rattle.project_machine.specs.Requests.{Asked, Happened, Founded, TextAdded, CheckedOut, TakenOver, LayerCommitted, LayerParked, LayerFinished, LayerReopened, LayerIgnored, LayerReadmitted, SnapshotTaken, ItemDecided, ItemUndecided, AllFreed, Restored}
 use Rattle.project_machine.specs.RequestValues.{IsAsked}

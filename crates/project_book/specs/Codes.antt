@@ -6,7 +6,7 @@ use Rattle.mark_base.specs.declared.ann_id.AnnId.{AnnId}
 use Rattle.mark_base.specs.contracts.ann_id.AnnId as id_row
 use Rattle.entry_bytes.specs.declared.person.Person.{Person}
 use Rattle.entry_bytes.specs.contracts.person.Person as person_row
-use Rattle.annotation_conf.specs.Configurations.{Configuration, configuration_code}
+use Rattle.conf_model.specs.Configurations.{Configuration, configuration_code}
 use Rattle.layer_model.specs.Annotations.{Annotations, annotations_code}
 use Rattle.layer_core.specs.declared.command.Command.{Command}
 use Rattle.layer_core.specs.contracts.command.Command as command_row

@@ -12,7 +12,8 @@ ghost use Rattle.project_book.specs.Keeping.{AreTables, TellsKeeper};
 
 use crate::book::Book;
 use crate::found_fault::FoundFault;
-use annotation_conf::{Conf, write_conf};
+use annotation_conf::write_conf;
+use conf_model::Conf;
 use entry_bytes::entries_have_bytes;
 use kappa_alpha::Tables;
 use label_tracks::Groups;

@@ -7,7 +7,7 @@ ghost use Rattle.project_machine.specs.ProjectState.{is_some_out};
 ghost use Rattle.project_machine.specs.Requests.{Happened};
 
 use curator_decisions::{decisions_stay_accepted, undecided_layers_are_accepted};
-use layer_core::unflawed_layers;
+use layer_rules::unflawed_layers;
 use project_state::states_can_be_restored;
 
 /// The verdicts on each snapshot of the state behind a history are accepted: they are on items, no item that is in

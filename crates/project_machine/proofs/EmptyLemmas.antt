@@ -7,14 +7,14 @@ use Rattle.std.specs.FinMap.{len-entries, len-empty}
 use Rattle.mark_base.specs.ReadIds.{id_at}
 use Rattle.mark_base.specs.declared.ann_id.Kind.{Kind}
 use Rattle.mark_base.specs.declared.ann_id.Kind.TheVariants as letter
-use Rattle.annotation_conf.specs.Configurations.{Configuration}
+use Rattle.conf_model.specs.Configurations.{Configuration}
 use Rattle.layer_model.specs.Annotations.{no_marks}
 use Rattle.layer_model.specs.Layers.{numbers}
 use Rattle.layer_model.specs.declared.flaw.Flaw.{Flaw}
 use Rattle.layer_model.specs.declared.flaw.FlawPlace.TheVariants as at
 use Rattle.layer_model.specs.LayerIds.{letters}
-use Rattle.layer_core.specs.FlawPlaces.{places, first_rule}
-use Rattle.layer_core.specs.WellFormed.{least_flaw, commit_fault, in_order, first_told, too_few}
+use Rattle.layer_rules.specs.FlawPlaces.{places, first_rule}
+use Rattle.layer_rules.specs.WellFormed.{least_flaw, commit_fault, in_order, first_told, too_few}
 use Rattle.ann_writer.specs.AnnOf.{lines_of, span_line, event_line, relation_line, attribute_line, normal_line, note_line, ann_of}
 use Rattle.project_machine.specs.Machine.{commit_rule}
 

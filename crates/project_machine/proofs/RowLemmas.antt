@@ -8,11 +8,11 @@ use Rattle.std.specs.Ordering.{nat_cmp, eq_by_cmp}
 use Rattle.std.proofs.lemmas.Bool.{cases_lt}
 use Rattle.std.proofs.lemmas.Grind.{get_or-set_at}
 use Rattle.std.proofs.lemmas.List.{get_or-set_other, set_past}
-use Rattle.annotation_conf.specs.Configurations.{Configuration}
+use Rattle.conf_model.specs.Configurations.{Configuration}
 use Rattle.layer_model.specs.declared.flaw.Flaw.{Flaw}
 use Rattle.layer_model.specs.Annotations.{Annotations, no_marks}
 use Rattle.layer_core.specs.declared.command.Command.{Command}
-use Rattle.layer_core.specs.WellFormed.{IsWellFormed, Obeys, least_flaw, commit_fault}
+use Rattle.layer_rules.specs.WellFormed.{IsWellFormed, Obeys, least_flaw, commit_fault}
 use Rattle.layer_undo.specs.Replays.{first_refusal}
 use Rattle.entry_bytes.specs.declared.entry.Entry.TheVariants as entry
 use Rattle.ann_writer.specs.AnnOf.{ann_of}

@@ -3,7 +3,7 @@ use Rattle.std.proofs.Common.{◌≡◌, ℕ, ◌+◌, ◌≤◌, List, [], ◌�
 use Rattle.entry_bytes.specs.Fields.{u32_bytes, u64_bytes, slug_bytes, text_bytes}
 use Rattle.entry_bytes.specs.Entries.{entry_bytes}
 use Rattle.entry_bytes.specs.declared.entry.Entry.TheVariants as entry
-use Rattle.annotation_conf.specs.Configurations.{Configuration}
+use Rattle.conf_model.specs.Configurations.{Configuration}
 use Rattle.command_bytes.specs.CommandBytes.{script_bytes, scripts_bytes}
 use Rattle.project_machine.specs.Entries.{IsShort}
 

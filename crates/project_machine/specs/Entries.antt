@@ -6,7 +6,7 @@ use Rattle.entry_bytes.specs.declared.entry.Entry.{Entry}
 use Rattle.entry_bytes.specs.declared.entry.Entry.TheVariants as entry
 use Rattle.entry_bytes.specs.Entries.{entry_bytes}
 use Rattle.entry_bytes.specs.Fields.{flag, u32_bytes}
-use Rattle.annotation_conf.specs.ConfText.{conf_text}
+use Rattle.conf_model.specs.ConfText.{conf_text}
 use Rattle.layer_model.specs.Classes.{letter_place}
 use Rattle.layer_model.specs.Annotations.{Annotations}
 use Rattle.ann_writer.specs.AnnOf.{ann_of}

@@ -4,12 +4,12 @@ use Rattle.std.specs.List.{All}
 use Rattle.entry_bytes.specs.declared.entry.Entry.TheVariants as entry
 use Rattle.entry_bytes.specs.declared.person.Person.{Person}
 use Rattle.entry_bytes.specs.Fields.{IsSlug}
-use Rattle.annotation_conf.specs.Configurations.{Configuration}
-use Rattle.annotation_conf.specs.ConfText.{conf_text}
-use Rattle.annotation_conf.specs.Sound as configuration
+use Rattle.conf_model.specs.Configurations.{Configuration}
+use Rattle.conf_model.specs.ConfText.{conf_text}
+use Rattle.conf_model.specs.Sound as configuration
 use Rattle.layer_model.specs.Annotations.{Annotations, no_marks}
 use Rattle.layer_model.specs.Snapshots.{AreHolders}
-use Rattle.layer_core.specs.WellFormed.{Obeys}
+use Rattle.layer_rules.specs.WellFormed.{Obeys}
 use Rattle.layer_undo.specs.Replays.{first_refusal}
 use Rattle.ann_writer.specs.AnnOf.{ann_of}
 use Rattle.unanimous_merge.specs.Readings.{readings}

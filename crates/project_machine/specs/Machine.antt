@@ -2,12 +2,12 @@
 use Rattle.std.specs.Prelude.{ℕ, ◌+◌, ◌==◌, ◌||◌, Bool, true, false, not, List, [], ◌∷◌, ◌++◌, length, map, sum, bytes_eq, nat_lt, nat_le, Option, Some, None, codes, decimal, option_map, is_some, unwrap_or, if◌then◌else◌}
 use Rattle.std.specs.Option.{option_map_or, option_or}
 use Rattle.entry_bytes.specs.Entries.{entry_bytes}
-use Rattle.annotation_conf.specs.Configurations.{Configuration}
+use Rattle.conf_model.specs.Configurations.{Configuration}
 use Rattle.char_documents.specs.Tokens.{tokens_of}
 use Rattle.layer_model.specs.Annotations.{Annotations}
 use Rattle.layer_model.specs.declared.rule.Rule.{Rule}
 use Rattle.layer_core.specs.declared.command.Command.{Command}
-use Rattle.layer_core.specs.WellFormed.{least_flaw, commit_fault}
+use Rattle.layer_rules.specs.WellFormed.{least_flaw, commit_fault}
 use Rattle.layer_undo.specs.Replays.{first_refusal}
 use Rattle.unanimous_merge.specs.Readings.{readings}
 use Rattle.curator_decisions.specs.declared.decision_fault.DecisionFault.{DecisionFault}
@@ -21,7 +21,7 @@ use Rattle.project_machine.specs.declared.book_refusal.Policy.TheVariants as pol
 use Rattle.project_machine.specs.declared.doc_line.DocLine.{DocLine}
 use Rattle.unanimous_merge.specs.declared.item.ItemId.{ItemId}
 use Rattle.curator_decisions.specs.declared.verdict.Verdict.{Verdict}
-use Rattle.layer_core.specs.NamedByRule.{id_text, named_by_rule}
+use Rattle.layer_rules.specs.NamedByRule.{id_text, named_by_rule}
 use Rattle.project_machine.specs.ProjectState.{Row, Document, Snapshot, ProjectState, annotators, is_annotator, is_curator, is_there, number_of, document, row_in, no_snapshot, finished_rows, is_untaken, snapshot, text_of, is_holder, holder_of, holder_name, item_in}
 use Rattle.project_machine.specs.Requests.{Asked, ReadConf, ListDocs, ReadText, AddText, Checkout, TakeOver, Commit, Park, Finish, ReadLayer, Reopen, Ignore, Readmit, Snap, TakeSnapshot, Decide, Undecide, ReadPairs, ReadAlpha, Out, View, Answered, Conf, Docs, Text, Added, HandedOut, Committed, Parked, Finished, Layer, Ignored, Snapped, Taken, Decided, Pairs, Alpha, Refused, Happened, TextAdded, CheckedOut, TakenOver, LayerCommitted, LayerParked, LayerFinished, LayerReopened, LayerIgnored, LayerReadmitted, SnapshotTaken, ItemDecided, ItemUndecided}
 use Rattle.project_machine.specs.Entries.{entry_of}

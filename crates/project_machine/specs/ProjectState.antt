@@ -3,7 +3,7 @@ use Rattle.std.specs.Prelude.{ℕ, ◌-◌, ◌==◌, ◌||◌, Bool, false, not
 use Rattle.std.specs.List.{filter, filter_map, list_any, position_or_len, zip}
 use Rattle.mark_base.specs.declared.ann_id.AnnId.{AnnId}
 use Rattle.entry_bytes.specs.declared.person.Person.{Person}
-use Rattle.annotation_conf.specs.Configurations.{Configuration}
+use Rattle.conf_model.specs.Configurations.{Configuration}
 use Rattle.layer_model.specs.Annotations.{Annotations, no_marks}
 use Rattle.layer_core.specs.declared.command.Command.{Command}
 use Rattle.unanimous_merge.specs.declared.item.ItemId.{ItemId}

@@ -2,7 +2,7 @@
 use Rattle.std.specs.Prelude.{ℕ, Bool, List}
 use Rattle.mark_base.specs.declared.ann_id.AnnId.{AnnId}
 use Rattle.entry_bytes.specs.declared.person.Person.{Person}
-use Rattle.annotation_conf.specs.Configurations.{Configuration}
+use Rattle.conf_model.specs.Configurations.{Configuration}
 use Rattle.layer_model.specs.Annotations.{Annotations}
 use Rattle.layer_core.specs.declared.command.Command.{Command}
 use Rattle.kappa_alpha.specs.declared.figures.PairLine.{PairLine}

@@ -15,7 +15,7 @@ ghost use Rattle.project_machine.specs.AskedFor.{asked_for, next_by, IsOfTyped};
 ghost use Rattle.project_machine.specs.Legal.{AreAccepted, HasRoom, HoldsTheSame, IsKept, IsLegal, IsSound, IsViewKept, LayersObey};
 ghost use Rattle.project_machine.specs.ProjectState.{ProjectState, is_curator, is_some_out, row, snapshot};
 
-use layer_core::unflawed_layers;
+use layer_rules::unflawed_layers;
 
 /// The people of a roster are those with which a project can be founded: their names strictly ascend, and there are 1
 /// to 16 of either sort. Only that each name is spelt as one does a list of people not say by itself.

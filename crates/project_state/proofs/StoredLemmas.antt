@@ -4,7 +4,7 @@ use Rattle.std.specs.List.{list_any, position_or_len, filter, filter_map, zip, c
 use Rattle.std.proofs.lemmas.List.{length-map, length-set, take_all, set_past, get_or-map}
 use Rattle.std.proofs.Math.Seq.{map-set_same}
 use Rattle.entry_bytes.specs.declared.person.Person.{Person}
-use Rattle.annotation_conf.specs.Configurations.{Configuration}
+use Rattle.conf_model.specs.Configurations.{Configuration}
 use Rattle.layer_model.specs.Annotations.{Annotations, no_marks}
 use Rattle.std.specs.Option.{option_map_or}
 use Rattle.std.proofs.lemmas.Option.{unwrap_or-slice_get}

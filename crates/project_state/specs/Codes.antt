@@ -4,7 +4,7 @@ use Rattle.std.proofs.Common.{refl}
 use Rattle.std.specs.Coded.{Coded, code_by, coded×, coded_ℕ, coded_bool, coded_list, coded_option}
 use Rattle.entry_bytes.specs.declared.person.Person.{Person}
 use Rattle.entry_bytes.specs.contracts.person.Person as person_row
-use Rattle.annotation_conf.specs.Configurations.{Configuration, configuration_code}
+use Rattle.conf_model.specs.Configurations.{Configuration, configuration_code}
 use Rattle.layer_model.specs.Annotations.{Annotations, annotations_code}
 use Rattle.layer_core.specs.declared.command.Command.{Command}
 use Rattle.layer_core.specs.contracts.command.Command as command_row

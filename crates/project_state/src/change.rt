@@ -1,8 +1,8 @@
 //! What happens to a project.
 use crate::Roster;
 use crate::state::BookState;
-use annotation_conf::Conf;
 use char_documents::Doc;
+use conf_model::Conf;
 use curator_decisions::Verdict;
 use layer_model::Layer;
 use layer_undo::Script;

@@ -2,8 +2,8 @@
 use crate::BookRefusal;
 use crate::doc_list::DocList;
 use crate::pair_list::PairList;
-use annotation_conf::Conf;
 use char_documents::Doc;
+use conf_model::Conf;
 use curator_decisions::Decisions;
 use kappa_alpha::AlphaLine;
 use layer_model::{Layer, Snapshot};

@@ -10,7 +10,7 @@ use crate::document::StoredDocument;
 use crate::limits::{MOST_CHARACTERS, MOST_DOCUMENTS};
 use crate::state::BookState;
 use crate::stored_snapshot::StoredSnapshot;
-use annotation_conf::Conf;
+use conf_model::Conf;
 use mark_base::{Memory, Slug};
 use std::alloc::Global;
 use std::collections::BTreeMap;

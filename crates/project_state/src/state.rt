@@ -12,7 +12,7 @@ use crate::document::StoredDocument;
 use crate::row::{StoredRow, blank_rows};
 use crate::stored_snapshot::StoredSnapshot;
 use crate::{Roster, people};
-use annotation_conf::Conf;
+use conf_model::Conf;
 use mark_base::{Memory, Slug};
 use std::alloc::Global;
 use std::collections::BTreeMap;

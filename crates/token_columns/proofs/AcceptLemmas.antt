@@ -10,10 +10,10 @@ use Rattle.mark_base.specs.declared.table_places.TypeId.{TypeId}
 use Rattle.mark_base.specs.Names.{name_fault}
 use Rattle.type_hierarchy.specs.declared.type_row.TypeRow.{TypeRow}
 use Rattle.type_hierarchy.specs.TypeTrees.{type_named}
-use Rattle.annotation_conf.specs.Configurations.{Configuration}
-use Rattle.annotation_conf.specs.ConfText.{type_name_at}
-use Rattle.annotation_conf.specs.Sound.{IsSound}
-use Rattle.layer_core.specs.MarkRules.{is_barred_type}
+use Rattle.conf_model.specs.Configurations.{Configuration}
+use Rattle.conf_model.specs.ConfText.{type_name_at}
+use Rattle.conf_model.specs.Sound.{IsSound}
+use Rattle.layer_rules.specs.MarkRules.{is_barred_type}
 use Rattle.ann_writer.proofs.ConfWords.{same_word, type_read_back, type_word}
 use Rattle.ann_writer.proofs.PlainWords.{IsPlain, name_plain, parts}
 use Rattle.token_columns.specs.declared.column_fault.ColumnWhat.TheVariants.{NotForUse}

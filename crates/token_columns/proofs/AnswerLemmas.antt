@@ -5,7 +5,7 @@ use Rattle.std.specs.Str.Lossy.{utf8_valid_len}
 use Rattle.std.proofs.lemmas.Str.{utf8_valid_len-IsUtf8}
 use Rattle.std.proofs.lemmas.Bool.{cond-false, le-ltb}
 use Rattle.char_documents.specs.Tokens.{tokens_of}
-use Rattle.annotation_conf.specs.Configurations.{Configuration}
+use Rattle.conf_model.specs.Configurations.{Configuration}
 use Rattle.layer_model.specs.Annotations.{Annotations}
 use Rattle.token_columns.specs.declared.column_fault.ColumnFault.{ColumnFault}
 use Rattle.token_columns.specs.ReadColumns.{Tells, read_from, read_of}

@@ -1,8 +1,8 @@
 -- A layer fits columns exactly where it has no fault, and its spans then rise.
 use Rattle.std.proofs.Common.{◌≡◌, ℕ, ◌<◌, ◌≤◌, ◌==◌, ◌&&◌, ◌||◌, inl, inr, not, true, false, cond, Bool, List, [], ◌∷◌, ◌++◌, map, Option, Some, None, refl, sym, ◌∙◌, ap, subst, arith, length, nat_lt, find, option_map, T, append_assoc, codes}
-use Rattle.annotation_conf.specs.Configurations.{Configuration}
+use Rattle.conf_model.specs.Configurations.{Configuration}
 use Rattle.layer_model.specs.Layers.{IsLayer}
-use Rattle.layer_core.specs.WellFormed.{IsWellFormed}
+use Rattle.layer_rules.specs.WellFormed.{IsWellFormed}
 use Rattle.token_columns.specs.Columns.{column_line, columns}
 use Rattle.token_columns.specs.WriteRuns.{text_from}
 use Rattle.token_columns.proofs.TextFrom.{text_is}
@@ -28,7 +28,7 @@ use Rattle.layer_model.specs.declared.span.Span.{Span}
 use Rattle.layer_model.specs.Annotations.{Annotations}
 use Rattle.layer_model.specs.Coherent.{is_span_letter}
 use Rattle.layer_model.specs.LayerIds.{ids_of, ids_of_letter}
-use Rattle.layer_core.proofs.PlaceLemmas.{is_less, left, right}
+use Rattle.layer_rules.proofs.PlaceLemmas.{is_less, left, right}
 use Rattle.token_columns.specs.declared.column_fault.ColumnOut.{ColumnOut}
 use Rattle.token_columns.specs.declared.column_fault.ColumnOut.TheVariants.{OtherThere, ClassThere, Fragmented, Unaligned, Shared, Numbered, WriteFault, Memory}
 use Rattle.token_columns.specs.declared.run.Run.{Run}

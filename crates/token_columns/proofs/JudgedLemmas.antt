@@ -11,9 +11,9 @@ use Rattle.mark_base.specs.declared.table_places.TypeId.{TypeId}
 use Rattle.mark_base.specs.Names.{name_fault}
 use Rattle.type_hierarchy.specs.declared.type_row.TypeRow.{TypeRow}
 use Rattle.type_hierarchy.specs.TypeTrees.{type_named, is_named}
-use Rattle.annotation_conf.specs.Configurations.{Configuration}
-use Rattle.annotation_conf.specs.ConfText.{type_name_at}
-use Rattle.layer_core.specs.MarkRules.{is_barred_type}
+use Rattle.conf_model.specs.Configurations.{Configuration}
+use Rattle.conf_model.specs.ConfText.{type_name_at}
+use Rattle.layer_rules.specs.MarkRules.{is_barred_type}
 use Rattle.token_columns.specs.declared.column_fault.ColumnWhat.TheVariants.{NotForUse, TooLong, Full, Orphan, WrongToken}
 use Rattle.token_columns.specs.declared.label.Label.{Label}
 use Rattle.token_columns.specs.declared.label.Label.TheVariants as label

@@ -8,16 +8,16 @@ use Rattle.std.specs.FinMap as finite
 use Rattle.std.proofs.lemmas.Bool.{and_from, and_parts, or_cases, or_left, or_right, eqb-true, lt-ltb, le-ltb, ltb-true, cases_lt, false≢true, true≢false}
 use Rattle.mark_base.specs.declared.fragments.Frag.{Frag}
 use Rattle.mark_base.specs.declared.ann_id.Kind.TheVariants as letter
-use Rattle.annotation_conf.specs.Configurations.{Configuration}
+use Rattle.conf_model.specs.Configurations.{Configuration}
 use Rattle.layer_model.specs.declared.flaw.FlawPlace.TheVariants as at
 use Rattle.layer_model.specs.declared.mark.Mark.TheVariants as marked
 use Rattle.layer_model.specs.declared.span.Span.{Span}
 use Rattle.layer_model.specs.Annotations.{Annotations}
 use Rattle.layer_model.specs.Layers.{IsLayer}
-use Rattle.layer_core.specs.MarkRules.{bad_fragments, where_so}
-use Rattle.layer_core.specs.BadTexts.{are_fragments}
-use Rattle.layer_core.specs.WellFormed.{IsWellFormed}
-use Rattle.layer_core.proofs.PlaceLemmas.{entries_found}
+use Rattle.layer_rules.specs.MarkRules.{bad_fragments, where_so}
+use Rattle.layer_rules.specs.BadTexts.{are_fragments}
+use Rattle.layer_rules.specs.WellFormed.{IsWellFormed}
+use Rattle.layer_rules.proofs.PlaceLemmas.{entries_found}
 use Rattle.char_documents.specs.Tokens.{tokens_of}
 use Rattle.token_columns.specs.declared.column_fault.ColumnOut.{ColumnOut}
 use Rattle.token_columns.specs.declared.column_fault.ColumnOut.TheVariants.{Shared}

@@ -4,7 +4,7 @@ use Rattle.std.specs.Prelude.{⊤}
 use Rattle.std.specs.List.{filter, AllByRecursion}
 use Rattle.std.proofs.lemmas.Bool.{cond-true, cond-false}
 use Rattle.mark_base.specs.declared.fragments.Frag.{Frag}
-use Rattle.annotation_conf.specs.Configurations.{Configuration}
+use Rattle.conf_model.specs.Configurations.{Configuration}
 use Rattle.token_columns.specs.declared.column_fault.ColumnFault.{ColumnFault}
 use Rattle.token_columns.specs.declared.label.Label.{Label}
 use Rattle.token_columns.specs.declared.label.Label.TheVariants as label

@@ -11,7 +11,7 @@ use Rattle.std.proofs.lemmas.Bool.{cond-true, cond-false}
 use Rattle.std.specs.List.{slice_split}
 use Rattle.token_columns.specs.declared.label.LabelForm.{LabelForm}
 use Rattle.mark_base.specs.declared.fragments.Frag.{Frag}
-use Rattle.annotation_conf.specs.Configurations.{Configuration}
+use Rattle.conf_model.specs.Configurations.{Configuration}
 use Rattle.token_columns.specs.declared.column_fault.ColumnWhat.{ColumnWhat}
 use Rattle.token_columns.specs.declared.column_fault.ColumnWhat.TheVariants.{BadLine, TooMany, TooFew}
 use Rattle.token_columns.specs.declared.column_fault.ColumnFault.{ColumnFault}

@@ -7,10 +7,10 @@ use Rattle.std.proofs.lemmas.Bool.{cond_both, cond-true, cond-false, ltb-true, a
 use Rattle.mark_base.specs.declared.fragments.Frag.{Frag}
 use Rattle.type_hierarchy.specs.declared.type_row.TypeRow.{TypeRow}
 use Rattle.char_documents.specs.Tokens.{tokens_of}
-use Rattle.annotation_conf.specs.Configurations.{Configuration}
+use Rattle.conf_model.specs.Configurations.{Configuration}
 use Rattle.layer_model.specs.declared.span.Span.{Span}
 use Rattle.layer_model.specs.Annotations.{Annotations}
-use Rattle.layer_core.specs.WellFormed.{IsWellFormed}
+use Rattle.layer_rules.specs.WellFormed.{IsWellFormed}
 use Rattle.overlap_rules.specs.Overlaps.{covers}
 use Rattle.label_tracks.specs.Candidates.{candidate_of, end_of, sooner, start_of}
 use Rattle.label_tracks.specs.Labels.{label_at, labels_of}

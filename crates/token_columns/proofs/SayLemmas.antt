@@ -11,7 +11,7 @@ use Rattle.mark_base.specs.declared.ann_id.Kind.TheVariants as letter
 use Rattle.mark_base.specs.declared.fragments.Frag.{Frag}
 use Rattle.mark_base.specs.ReadIds.{id_at}
 use Rattle.type_hierarchy.specs.declared.type_row.TypeRow.{TypeRow}
-use Rattle.annotation_conf.specs.Configurations.{Configuration}
+use Rattle.conf_model.specs.Configurations.{Configuration}
 use Rattle.overlap_rules.specs.Overlaps.{reach}
 use Rattle.layer_model.specs.declared.flaw.FlawPlace.TheVariants as at
 use Rattle.layer_model.specs.declared.mark.Mark.TheVariants as marked
@@ -21,12 +21,12 @@ use Rattle.layer_model.specs.declared.span.Span.{Span}
 use Rattle.layer_model.specs.Annotations.{Annotations}
 use Rattle.layer_model.specs.LayerIds.{id_place, ids_of_letter}
 use Rattle.layer_model.specs.Layers.{IsLayer}
-use Rattle.layer_core.specs.LayerRules.{counted_letter, counted_with, is_id, layer_full}
+use Rattle.layer_rules.specs.LayerRules.{counted_letter, counted_with, is_id, layer_full}
 use Rattle.label_tracks.specs.Candidates.{start_of, end_of}
 use Rattle.layer_model.specs.declared.mark.Mark.{Mark}
-use Rattle.layer_core.specs.MarkRules.{not_for_use, span_too_long, unknown_type, where_so}
-use Rattle.layer_core.specs.WellFormed.{IsWellFormed}
-use Rattle.layer_core.proofs.PlaceLemmas.{entries_found}
+use Rattle.layer_rules.specs.MarkRules.{not_for_use, span_too_long, unknown_type, where_so}
+use Rattle.layer_rules.specs.WellFormed.{IsWellFormed}
+use Rattle.layer_rules.proofs.PlaceLemmas.{entries_found}
 use Rattle.token_columns.specs.declared.label.Label.{Label}
 use Rattle.token_columns.specs.declared.label.Label.TheVariants as label
 use Rattle.token_columns.specs.declared.run.Run.{Run}

@@ -8,9 +8,9 @@ use Rattle.std.proofs.lemmas.List.Splits.{length-slice_split}
 use Rattle.std.proofs.lemmas.List.Sums.{count_by-le-length}
 use Rattle.mark_base.specs.declared.fragments.Frag.{Frag}
 use Rattle.char_documents.specs.Tokens.{tokens_of}
-use Rattle.annotation_conf.specs.Configurations.{Configuration}
+use Rattle.conf_model.specs.Configurations.{Configuration}
 use Rattle.layer_model.specs.Annotations.{Annotations, no_marks}
-use Rattle.layer_core.specs.WellFormed.{IsWellFormed}
+use Rattle.layer_rules.specs.WellFormed.{IsWellFormed}
 use Rattle.token_columns.specs.declared.label.Label.{Label}
 use Rattle.token_columns.specs.declared.label.Label.TheVariants as label
 use Rattle.token_columns.specs.declared.run.Run.{Run}

@@ -4,7 +4,7 @@ use Rattle.std.proofs.lemmas.List.{at_drop_more}
 use Rattle.std.specs.List.{flat_map}
 use Rattle.std.proofs.lemmas.Bool.{cond-true, cond-false, le-leb, lt-leb, cases_lt}
 use Rattle.mark_base.specs.declared.fragments.Frag.{Frag}
-use Rattle.annotation_conf.specs.Configurations.{Configuration}
+use Rattle.conf_model.specs.Configurations.{Configuration}
 use Rattle.token_columns.specs.declared.run.Run.{Run}
 use Rattle.token_columns.specs.Columns.{column_line, labelled_line, token_text}
 use denote.Ref.{Bor}

@@ -13,8 +13,8 @@ use Rattle.mark_base.specs.declared.ann_id.Kind.TheVariants as letter
 use Rattle.mark_base.specs.declared.fragments.Frag.{Frag}
 use Rattle.mark_base.specs.declared.overlap.OvlKind.TheVariants.{Apart}
 use Rattle.type_hierarchy.specs.declared.type_row.TypeRow.{TypeRow}
-use Rattle.annotation_conf.specs.Configurations.{Configuration}
-use Rattle.annotation_conf.specs.Lookups.{allows_either, overlap_allowed, is_apart}
+use Rattle.conf_model.specs.Configurations.{Configuration}
+use Rattle.conf_model.specs.Lookups.{allows_either, overlap_allowed, is_apart}
 use Rattle.mark_base.specs.ReadIds.{id_at}
 use Rattle.overlap_rules.specs.Overlaps.{covers, has_all, kind_by, kind_of}
 use Rattle.layer_model.specs.declared.class.Class.{Class}
@@ -27,14 +27,14 @@ use Rattle.layer_model.specs.Classes.{letter_place}
 use Rattle.layer_model.specs.LayerIds.{id_place, ids_of, ids_of_letter}
 use Rattle.layer_model.specs.declared.span.Span.{Span}
 use Rattle.layer_model.specs.Layers.{mark_of}
-use Rattle.layer_core.specs.FlawPlaces.{by_place}
-use Rattle.layer_core.specs.LayerRules.{attribute_there, bad_text, classes_full, equiv_members, overlap_refused, same_event, same_relation, same_span, too_deep, counted_letter, counted_with, is_id, layer_full, lower_pair, refused_overlap, same_attributes, same_events, same_relations, same_spans}
-use Rattle.layer_core.specs.MarkRules.{argument_type, first_missing, first_unwanted, member, named_by, too_many, unknown_class, class_not_for_use, unknown_role, unknown_value, wanted_by, bad_fragments, not_for_use, out_of_text, span_too_long, unknown_type, where_so}
-use Rattle.layer_core.specs.WellFormed.{Never, IsWellFormed, no_class}
+use Rattle.layer_rules.specs.FlawPlaces.{by_place}
+use Rattle.layer_rules.specs.LayerRules.{attribute_there, bad_text, classes_full, equiv_members, overlap_refused, same_event, same_relation, same_span, too_deep, counted_letter, counted_with, is_id, layer_full, lower_pair, refused_overlap, same_attributes, same_events, same_relations, same_spans}
+use Rattle.layer_rules.specs.MarkRules.{argument_type, first_missing, first_unwanted, member, named_by, too_many, unknown_class, class_not_for_use, unknown_role, unknown_value, wanted_by, bad_fragments, not_for_use, out_of_text, span_too_long, unknown_type, where_so}
+use Rattle.layer_rules.specs.WellFormed.{Never, IsWellFormed, no_class}
 use Rattle.token_columns.specs.declared.run.Run.{Run}
 use Rattle.token_columns.specs.Fits.{only_spans}
 use Rattle.token_columns.specs.ReadRuns.{span_of, numbered}
-use Rattle.layer_core.proofs.LawLemmas.{same_number}
+use Rattle.layer_rules.proofs.LawLemmas.{same_number}
 use Rattle.token_columns.proofs.RunLemmas.{RunsRise}
 use Rattle.token_columns.proofs.JudgedLemmas.{CanUse, RunStands}
 

@@ -11,12 +11,12 @@ use Rattle.mark_base.specs.declared.fragments.Frag.{Frag}
 use Rattle.mark_base.specs.declared.table_places.TypeId.{TypeId}
 use Rattle.type_hierarchy.specs.declared.type_row.TypeRow.{TypeRow}
 use Rattle.char_documents.specs.Tokens.{tokens_of}
-use Rattle.annotation_conf.specs.Configurations.{Configuration}
-use Rattle.annotation_conf.specs.ConfText.{type_name_at}
-use Rattle.annotation_conf.specs.Sound.{IsSound}
+use Rattle.conf_model.specs.Configurations.{Configuration}
+use Rattle.conf_model.specs.ConfText.{type_name_at}
+use Rattle.conf_model.specs.Sound.{IsSound}
 use Rattle.annotation_conf.proofs.WrittenLists.{none-append, split_at}
 use Rattle.layer_model.specs.Annotations.{Annotations}
-use Rattle.layer_core.specs.WellFormed.{IsWellFormed}
+use Rattle.layer_rules.specs.WellFormed.{IsWellFormed}
 use Rattle.ann_writer.proofs.ConfWords.{type_word}
 use Rattle.ann_writer.proofs.PlainWords.{IsPlain, no_feed, no_return, parts}
 use Rattle.ann_writer.proofs.WrittenBytes.{joined_utf8, plain_utf8}

@@ -4,8 +4,8 @@ use Rattle.std.specs.List.{flat_map}
 use Rattle.mark_base.specs.declared.fragments.Frag.{Frag}
 use Rattle.char_documents.specs.Texts.{covered}
 use Rattle.char_documents.specs.Tokens.{tokens_of}
-use Rattle.annotation_conf.specs.Configurations.{Configuration}
-use Rattle.annotation_conf.specs.ConfText.{type_name_at}
+use Rattle.conf_model.specs.Configurations.{Configuration}
+use Rattle.conf_model.specs.ConfText.{type_name_at}
 use Rattle.layer_model.specs.Annotations.{Annotations}
 use Rattle.token_columns.specs.declared.label.Label.{Label}
 use Rattle.token_columns.specs.declared.label.Label.TheVariants.{Out, Begin, Inside}

@@ -8,8 +8,8 @@ use Rattle.mark_base.specs.declared.table_places.TypeId.{TypeId}
 use Rattle.mark_base.specs.Names.{name_fault}
 use Rattle.char_documents.specs.Tokens.{tokens_of}
 use Rattle.type_hierarchy.specs.TypeTrees.{type_named}
-use Rattle.annotation_conf.specs.Configurations.{Configuration}
-use Rattle.layer_core.specs.MarkRules.{is_barred_type}
+use Rattle.conf_model.specs.Configurations.{Configuration}
+use Rattle.layer_rules.specs.MarkRules.{is_barred_type}
 use Rattle.token_columns.specs.declared.column_fault.ColumnWhat.{ColumnWhat}
 use Rattle.token_columns.specs.declared.column_fault.ColumnWhat.TheVariants.{NotUtf8, BadLine, TooMany, WrongToken, UnknownType, NotForUse, Orphan, TooLong, Full, TooFew}
 use Rattle.token_columns.specs.declared.column_fault.ColumnFault.{ColumnFault}

@@ -1,7 +1,7 @@
 -- Small texts, a configuration and spans, worked out by hand.
 use Rattle.std.specs.Prelude.{ℕ, List, [], ◌∷◌, codes, None, true, false}
 use Rattle.mark_base.specs.declared.fragments.Frag.{Frag}
-use Rattle.annotation_conf.specs.Configurations.{Configuration}
+use Rattle.conf_model.specs.Configurations.{Configuration}
 use Rattle.token_columns.specs.declared.run.Run.{Run}
 use Rattle.token_columns.specs.declared.run.Placed.{Placed}
 

@@ -2,7 +2,7 @@
 use Rattle.std.specs.Prelude.{ℕ, ◌≤◌, ◌+◌, ◌==◌, ◌&&◌, Bool, true, ⊤, List, [], ◌∷◌, ◌++◌, codes, nat_lt, nat_le, Option, Some, None, if◌then◌else◌}
 use Rattle.std.specs.List.{list_any}
 use Rattle.mark_base.specs.declared.fragments.Frag.{Frag}
-use Rattle.annotation_conf.specs.Configurations.{Configuration}
+use Rattle.conf_model.specs.Configurations.{Configuration}
 use Rattle.token_columns.specs.declared.run.Run.{Run}
 use Rattle.token_columns.specs.declared.run.Placed.{Placed}
 use Rattle.token_columns.specs.Columns.{labelled_line}

@@ -1,6 +1,6 @@
 //! The columns of a layer as a text.
 ghost use Rattle.std.specs.Prelude.{◌≡◌, ◌++◌, codes, length, string_bytes, IfOk, OnOk};
-ghost use Rattle.annotation_conf.specs.ConfText.{type_name_at};
+ghost use Rattle.conf_model.specs.ConfText.{type_name_at};
 ghost use Rattle.token_columns.specs.Columns.{columns, label_word};
 ghost use Rattle.token_columns.specs.Labels.{label_by, runs_of};
 ghost use Rattle.token_columns.specs.WriteRuns.{first_at, still, text_from};
@@ -9,8 +9,8 @@ ghost use Rattle.char_documents.specs.Tokens.{tokens_of};
 use crate::label::Label;
 use crate::run::Run;
 use crate::token_texts::token_texts;
-use annotation_conf::Conf;
 use char_documents::Doc;
+use conf_model::Conf;
 use mark_base::{Frag, Memory, TypeId};
 use std::alloc::Global;
 

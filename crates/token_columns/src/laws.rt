@@ -1,9 +1,9 @@
 //! Laws of columns. Each function does nothing; its contract is the law.
 ghost use Rattle.std.specs.Prelude.{◌≡◌, ℕ, List, length, map, None, IsOk};
 ghost use Rattle.char_documents.specs.Tokens.{tokens_of};
-ghost use Rattle.annotation_conf.specs.Configurations.{Configuration};
+ghost use Rattle.conf_model.specs.Configurations.{Configuration};
 ghost use Rattle.layer_model.specs.Annotations.{Annotations};
-ghost use Rattle.layer_core.specs.WellFormed.{IsWellFormed};
+ghost use Rattle.layer_rules.specs.WellFormed.{IsWellFormed};
 ghost use Rattle.label_tracks.specs.Labels.{labels_of};
 ghost use Rattle.token_columns.specs.Labels.{group_of, label_of, runs_of};
 ghost use Rattle.token_columns.specs.ColumnFiles.{IsColumns, IsOfProgram};

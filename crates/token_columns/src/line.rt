@@ -3,7 +3,7 @@ ghost use Rattle.std.specs.Prelude.{◌≡◌, ◌≤◌, ◌<◌, ◌==◌, byt
 ghost use Rattle.std.specs.List.{common_prefix_len, slice_split};
 ghost use Rattle.mark_base.specs.Names.{name_fault};
 ghost use Rattle.type_hierarchy.specs.TypeTrees.{type_named};
-ghost use Rattle.layer_core.specs.MarkRules.{is_barred_type};
+ghost use Rattle.layer_rules.specs.MarkRules.{is_barred_type};
 ghost use Rattle.token_columns.specs.Columns.{token_text};
 ghost use Rattle.token_columns.specs.LineShows.{seen_text};
 ghost use Rattle.token_columns.specs.ReadColumns.{begin_at, fields_at, first_differing, form_of, inside_at, is_blank, is_typed, judged, label_at, token_at, usable};
@@ -11,8 +11,8 @@ ghost use Rattle.token_columns.specs.ReadColumns.{begin_at, fields_at, first_dif
 use crate::column_fault::ColumnWhat;
 use crate::label::{Label, LabelForm};
 use crate::run::Run;
-use annotation_conf::Conf;
 use char_documents::Doc;
+use conf_model::Conf;
 use mark_base::{Frag, Memory, Name, NameFault, TypeId};
 use std::alloc::{AllocError, Global};
 

@@ -4,7 +4,7 @@ ghost use Rattle.std.specs.List.{list_any};
 ghost use Rattle.char_documents.specs.Tokens.{tokens_of};
 ghost use Rattle.layer_model.specs.Coherent.{is_span_letter};
 ghost use Rattle.layer_model.specs.LayerIds.{ids_of};
-ghost use Rattle.layer_core.specs.WellFormed.{IsWellFormed};
+ghost use Rattle.layer_rules.specs.WellFormed.{IsWellFormed};
 ghost use Rattle.token_columns.specs.Fits.{place_of};
 ghost use Rattle.token_columns.specs.Labels.{spans_of};
 ghost use Rattle.token_columns.specs.WriteFaults.{class_there, earlier, fragmented, is_misnumbered, misnumbered, other_there, out_fault, span_id, unaligned};
@@ -12,8 +12,8 @@ ghost use Rattle.token_columns.specs.WriteRuns.{Rises, is_ordered, meet, meets_l
 
 use crate::column_fault::ColumnOut;
 use crate::run::{Placed, Run};
-use annotation_conf::Conf;
 use char_documents::Doc;
+use conf_model::Conf;
 use layer_model::{Layer, id_at, ids_of};
 use mark_base::{AnnId, Frag, Kind, Memory};
 use std::alloc::{AllocError, Global};

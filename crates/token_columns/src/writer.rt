@@ -2,7 +2,7 @@
 ghost use Rattle.std.specs.Prelude.{◌≡◌, ◌≤◌, None, length, string_bytes, IfOk, IfErr, IsErrOf, OnOk, OnErr};
 ghost use Rattle.std.specs.Io.KnownBytes.{Appends};
 ghost use Rattle.mark_base.specs.Streams.{AppendsFront, TellsFault};
-ghost use Rattle.layer_core.specs.WellFormed.{IsWellFormed};
+ghost use Rattle.layer_rules.specs.WellFormed.{IsWellFormed};
 ghost use Rattle.token_columns.specs.Columns.{columns};
 ghost use Rattle.token_columns.specs.Fits.{Fits};
 ghost use Rattle.token_columns.specs.WriteFaults.{IsNamed, TellsLayer, TellsOut, out_fault};
@@ -11,8 +11,8 @@ use crate::column_fault::ColumnOut;
 use crate::columns::column_text;
 use crate::run::{Placed, Run, runs_of, spans_of};
 use crate::write_faults::out_fault;
-use annotation_conf::Conf;
 use char_documents::Doc;
+use conf_model::Conf;
 use layer_model::Layer;
 use mark_base::{Bytes, Memory, Sink, write_all};
 use std::alloc::Global;

@@ -2,7 +2,7 @@
 use Rattle.std.proofs.Common.{◌≡◌, ℕ, List, inl, inr, ap, subst, ◌∙◌}
 use Rattle.std.specs.Prelude.{◌≢◌, codes}
 use Rattle.entry_bytes.specs.declared.person.Person.{Person}
-use Rattle.annotation_conf.specs.Configurations.{Configuration}
+use Rattle.conf_model.specs.Configurations.{Configuration}
 use Rattle.project_machine.specs.Requests.{AddText, Checkout, Happened}
 use Rattle.project_book.specs.Founding.{founded}
 use Rattle.program_inputs.specs.declared.trouble.Trouble.{Trouble}

@@ -2,7 +2,7 @@
 use Rattle.std.specs.Prelude.{◌≡◌, ◌≢◌, ◌⊎◌, ℕ, true, false, List, [], ◌∷◌, codes, Option, Result, Err}
 use Rattle.mark_base.specs.FailList.{FailState, IsFaultless}
 use Rattle.entry_bytes.specs.declared.person.Person.{Person}
-use Rattle.annotation_conf.specs.Configurations.{Configuration}
+use Rattle.conf_model.specs.Configurations.{Configuration}
 use Rattle.project_machine.specs.Requests.{AddText, Checkout, Happened}
 use Rattle.project_machine.specs.History.{last}
 use Rattle.project_book.specs.Founding.{founded}

@@ -5,7 +5,7 @@ ghost use Rattle.project_journal.specs.MemoryKeepers.{fails_of_appends};
 ghost use Rattle.mark_base.specs.FailList.{IsFaultless};
 ghost use Rattle.annotation_cli.specs.Commands.Requests.{NotFounded};
 
-use annotation_conf::Conf;
+use conf_model::Conf;
 use entry_bytes::Person;
 use mark_base::{Memory, Slug};
 use program_inputs::Trouble;

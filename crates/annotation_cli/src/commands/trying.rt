@@ -9,9 +9,9 @@ ghost use Rattle.annotation_cli.specs.Commands.Trying.{FindsProject, IsTried, No
 use crate::commands::founding::{found_in_memory, person, slug_of};
 use crate::commands::requests::{add_text, check_out};
 use crate::commands::serving::serve;
-use annotation_conf::Conf;
 use annotation_http::{Held, Start};
 use char_documents::Doc;
+use conf_model::Conf;
 use mark_base::{Link, Memory, Slug, Steps};
 use program_inputs::{Folder, Trouble, read_conf_file, read_text_file};
 use project_book::{Alone, Book, Roster};

@@ -5,12 +5,12 @@ use Rattle.std.specs.Option.{option_to_list}
 use Rattle.std.proofs.lemmas.Bool.{ltb-false, or_parts}
 use Rattle.std.proofs.lemmas.List.{take-append-le, take_all}
 use Rattle.std.proofs.lemmas.List.Elements.{All-append, All-cons, All-head, All-map, All-nil, All-tail}
-use Rattle.annotation_conf.specs.Configurations.{Configuration}
+use Rattle.conf_model.specs.Configurations.{Configuration}
 use Rattle.layer_model.specs.Annotations.{Annotations}
 use Rattle.layer_model.specs.Coherent.{IsCoherent}
 use Rattle.layer_model.specs.Layers.{IsLayer}
 use Rattle.layer_model.specs.declared.rule.Rule.{Rule}
-use Rattle.layer_core.specs.WellFormed.{IsWellFormed}
+use Rattle.layer_rules.specs.WellFormed.{IsWellFormed}
 use Rattle.unanimous_merge.specs.Readings.{Reading, readings}
 use Rattle.curator_decisions.specs.declared.decision_fault.DecisionFault.TheVariants.{Broken}
 use Rattle.curator_decisions.specs.Curated.{curated}

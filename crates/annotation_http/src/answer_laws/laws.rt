@@ -7,7 +7,7 @@ ghost use Rattle.project_machine.specs.Machine.{step};
 ghost use Rattle.project_machine.specs.Requests.{Answered, Asked, Happened};
 ghost use Rattle.http_answers.specs.Answers.Answers.{CanBeShown};
 
-use layer_core::{unflawed_layers, well_formed_layers_cohere};
+use layer_rules::{unflawed_layers, well_formed_layers_cohere};
 use project_book::verdicts_are_accepted;
 use project_state::states_can_be_restored;
 

@@ -2,8 +2,8 @@
 ghost use Rattle.std.specs.Prelude.{◌≡◌};
 ghost use Rattle.std.specs.Arc.{arc_value};
 
-use annotation_conf::Conf;
 use char_documents::Doc;
+use conf_model::Conf;
 use layer_undo::Desk;
 use mark_base::Slug;
 use std::sync::Arc;

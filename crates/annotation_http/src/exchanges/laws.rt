@@ -12,7 +12,7 @@ ghost use Rattle.annotation_http.specs.Exchanges.Connections.{Holding};
 ghost use Rattle.annotation_http.specs.Exchanges.Exchanges.{CanBeOpened};
 ghost use Rattle.annotation_http.specs.Exchanges.OpenDesks.{CommitsUpTo, IsOpenOn, IsUnder};
 
-use layer_core::unflawed_layers;
+use layer_rules::unflawed_layers;
 use project_state::states_can_be_restored;
 
 /// Whatever is asked at a place of a history, a desk can be opened on the layer that is handed out, where one is.

@@ -1,6 +1,6 @@
 -- A file that is read is loaded.
 use Rattle.std.proofs.Common.{◌≡◌, ℕ, List, None, sym, ◌∙◌, ap}
-use Rattle.annotation_conf.specs.Configurations.{Configuration}
+use Rattle.conf_model.specs.Configurations.{Configuration}
 use Rattle.layer_model.specs.Annotations.{Annotations}
 use Rattle.layer_core.specs.declared.command.Command.TheVariants.{Load}
 use Rattle.layer_undo.specs.Desks.{DeskState}

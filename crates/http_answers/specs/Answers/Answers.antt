@@ -2,9 +2,9 @@
 use Rattle.std.specs.Prelude.{ℕ, Bool, true, false, List, length, codes, All, IfSome, encode_utf8_all, ⊤}
 use Rattle.http_wire.specs.declared.answer.Answer.{Answer}
 use Rattle.http_wire.specs.declared.answer.Media.TheVariants.{Plain, Csv}
-use Rattle.annotation_conf.specs.ConfText.{conf_text}
+use Rattle.conf_model.specs.ConfText.{conf_text}
 use Rattle.layer_model.specs.Annotations.{Annotations}
-use Rattle.layer_core.specs.WellFormed.{IsWellFormed}
+use Rattle.layer_rules.specs.WellFormed.{IsWellFormed}
 use Rattle.ann_writer.specs.AnnOf.{ann_of}
 use Rattle.unanimous_merge.specs.Readings.{readings}
 use Rattle.curator_decisions.specs.Curated.{curated}

@@ -1,8 +1,8 @@
 //! The answer that a reply is on its route.
 ghost use Rattle.std.specs.Prelude.{◌≡◌, true, false, length, All, IfOk, IfSome, encode_utf8_all};
 ghost use Rattle.http.specs.StatusCode.{IsStatusCode};
-ghost use Rattle.annotation_conf.specs.ConfText.{conf_text};
-ghost use Rattle.layer_core.specs.WellFormed.{IsWellFormed};
+ghost use Rattle.conf_model.specs.ConfText.{conf_text};
+ghost use Rattle.layer_rules.specs.WellFormed.{IsWellFormed};
 ghost use Rattle.ann_writer.specs.AnnOf.{ann_of};
 ghost use Rattle.kappa_alpha.specs.Figures.{Writable};
 ghost use Rattle.agreement_report.specs.Report.{IsShown, alpha_table, pairs_table};
@@ -15,8 +15,9 @@ use crate::answer_bodies::{
 use crate::routes::{BookRoute, Route, SnapshotRoute};
 use agreement_report::{alpha_csv, pairs_csv};
 use ann_writer::ann_bytes;
-use annotation_conf::{Conf, write_conf};
+use annotation_conf::write_conf;
 use char_documents::Doc;
+use conf_model::Conf;
 use http_wire::{Answer, Media};
 use items_report::items_csv;
 use kappa_alpha::{AlphaLine, PairLine};

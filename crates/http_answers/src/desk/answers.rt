@@ -5,10 +5,10 @@ ghost use Rattle.http_answers.specs.Desk.DeskAnswers.{counts_answer, lines_answe
 
 use crate::desk::refusals::json_answer;
 use ann_writer::ann_bytes;
-use annotation_conf::Conf;
 use char_documents::Doc;
+use conf_model::Conf;
 use http_wire::{Answer, Media};
-use layer_core::id_text;
+use layer_rules::id_text;
 use layer_undo::Desk;
 use mark_base::{AnnId, Memory};
 use serde_json::json;

@@ -6,9 +6,9 @@ ghost use Rattle.http_answers.specs.Desk.DeskAnswers.{IsLeft, IsOutcome, asked, 
 use crate::desk::answers::{counts_answer, lines_answer, made_answer, no_memory};
 use crate::desk::refusals::{fault_answer, rule_answer};
 use ann_reader::{AnnFault, files_of_a_layer, read_ann};
-use annotation_conf::Conf;
 use char_documents::Doc;
 use command_json::{CommandFault, read_command};
+use conf_model::Conf;
 use http_wire::Answer;
 use layer_core::{Command, Refusal};
 use layer_undo::Desk;

@@ -4,15 +4,15 @@ ghost use Rattle.json.specs.Print.{quoted};
 ghost use Rattle.http.specs.StatusCode.{IsStatusCode};
 ghost use Rattle.serde_json.specs.View.{view};
 ghost use Rattle.layer_model.specs.RuleNames.{rule_name};
-ghost use Rattle.layer_core.specs.NamedByRule.{named_by_rule};
+ghost use Rattle.layer_rules.specs.NamedByRule.{named_by_rule};
 ghost use Rattle.http_answers.specs.Desk.Refusals.{fault_answer, line_members, line_refusal, refusal_of, rule_answer};
 
 use crate::answer_bodies::rule_status;
 use ann_reader::AnnWhat;
-use annotation_conf::Conf;
+use conf_model::Conf;
 use http_wire::{Answer, Media};
-use layer_core::named_by_rule;
 use layer_model::Rule;
+use layer_rules::named_by_rule;
 use mark_base::{Bytes, Memory, Text};
 use serde_json::{Value, json};
 use std::alloc::Global;

@@ -1,7 +1,7 @@
 -- The file of a project: what it holds of a history, and why it is not made or opened.
 use Rattle.std.specs.Prelude.{◌≡◌, ◌≢◌, ℕ, true, List, length, Option, Some, IfSome, ⊤}
 use Rattle.entry_bytes.specs.declared.person.Person.{Person}
-use Rattle.annotation_conf.specs.Configurations.{Configuration}
+use Rattle.conf_model.specs.Configurations.{Configuration}
 use Rattle.project_journal.specs.declared.journal_fault.JournalFault.{JournalFault}
 use Rattle.project_journal.specs.declared.journal_fault.JournalFault.TheVariants as journal
 use Rattle.project_journal.specs.JournalFile.{opened}

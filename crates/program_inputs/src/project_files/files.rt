@@ -5,7 +5,7 @@ ghost use Rattle.project_journal.specs.Keeper.{IsEntry};
 ghost use Rattle.program_inputs.specs.ProjectFiles.ProjectFiles.{HasEntries, IsFileOf, NotBegun, NotMade, NotOpened, OpensAs, trouble_of};
 
 use crate::Trouble;
-use annotation_conf::Conf;
+use conf_model::Conf;
 use mark_base::Bytes;
 use project_book::{Book, FoundFault, OpenFault, Roster};
 use project_journal::{Disk, Journal, JournalFault, Keeper};

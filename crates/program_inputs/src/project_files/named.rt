@@ -7,7 +7,7 @@ ghost use Rattle.program_inputs.specs.ProjectFiles.ProjectFiles.{HasEntries, IsF
 
 use crate::Trouble;
 use crate::project_files::files::{close, found_in, make_in, open_in};
-use annotation_conf::Conf;
+use conf_model::Conf;
 use mark_base::Bytes;
 use named_disks::{Disks, DisksFault};
 use project_book::{Book, Roster};

@@ -6,8 +6,8 @@ use Rattle.entry_bytes.specs.declared.entry.Entry.{Entry}
 use Rattle.entry_bytes.specs.declared.entry.Entry.TheVariants as entry
 use Rattle.entry_bytes.specs.declared.person.Person.{Person}
 use Rattle.entry_bytes.specs.Entries.{entry_bytes, IsEntry}
-use Rattle.annotation_conf.specs.Configurations.{Configuration}
-use Rattle.annotation_conf.specs.ConfText.{conf_text}
+use Rattle.conf_model.specs.Configurations.{Configuration}
+use Rattle.conf_model.specs.ConfText.{conf_text}
 use Rattle.project_machine.specs.Entries.{first_piece, founding_entry, pieces_of}
 use Rattle.project_machine.specs.History.{encoded}
 use Rattle.project_machine.specs.Legal.{IsLegal, IsSound}

@@ -5,13 +5,13 @@ use Rattle.std.proofs.lemmas.List.{get_or-map, length-map}
 use Rattle.entry_bytes.specs.declared.entry.Entry.TheVariants as entry
 use Rattle.entry_bytes.specs.Entries.{entry_bytes}
 use Rattle.entry_bytes.specs.Fields.{slug_bytes, text_bytes, u32_bytes, u64_bytes}
-use Rattle.annotation_conf.specs.Configurations.{Configuration}
+use Rattle.conf_model.specs.Configurations.{Configuration}
 use Rattle.layer_model.specs.Annotations.{Annotations}
 use Rattle.layer_model.specs.Coherent.{IsCoherent}
 use Rattle.layer_model.specs.Layers.{IsLayer}
 use Rattle.layer_model.specs.Snapshots.{AreHolders, row_of}
 use Rattle.std.specs.declared.sync.Arc.{Arc}
-use Rattle.layer_core.specs.WellFormed.{IsWellFormed}
+use Rattle.layer_rules.specs.WellFormed.{IsWellFormed}
 use Rattle.unanimous_merge.specs.Readings.{readings}
 use Rattle.unanimous_merge.specs.Rows.{AreCoherent}
 use Rattle.curator_decisions.specs.DecisionFaults.{decision_fault}

@@ -2,12 +2,12 @@
 use Rattle.std.proofs.Common.{◌≡◌, ◌≢◌, ℕ, ◌+◌, ◌<◌, ◌≤◌, List, [], ◌∷◌, ◌++◌, length, map, get_or, take, Bool, false, Option, Some, None, IfSome, zero, suc, sym, ◌∙◌, ap, subst, arith}
 use Rattle.std.specs.Prelude.{encode_utf8_all, IfOk, Result, Ok, Err}
 use Rattle.std.specs.Arc.{arc_value}
-use Rattle.annotation_conf.specs.Configurations.{Configuration}
+use Rattle.conf_model.specs.Configurations.{Configuration}
 use Rattle.entry_bytes.specs.declared.entry.Entry.{Entry}
 use Rattle.entry_bytes.specs.declared.entry.Entry.TheVariants as entry
 use Rattle.entry_bytes.specs.Entries.{entry_bytes, IsEntry}
 use Rattle.layer_model.specs.Annotations.{Annotations}
-use Rattle.layer_core.specs.WellFormed.{commit_fault}
+use Rattle.layer_rules.specs.WellFormed.{commit_fault}
 use Rattle.ann_writer.specs.AnnOf.{ann_of}
 use Rattle.project_machine.specs.Entries.{document_piece, first_piece, pieces_of}
 use Rattle.project_machine.specs.Legal.{IsSound}

@@ -1,7 +1,7 @@
 -- How a history begins.
 use Rattle.std.proofs.Common.{◌≡◌, ℕ, List, [], ◌∷◌, ◌++◌, refl, ap}
 use Rattle.entry_bytes.specs.declared.person.Person.{Person}
-use Rattle.annotation_conf.specs.Configurations.{Configuration}
+use Rattle.conf_model.specs.Configurations.{Configuration}
 use Rattle.project_machine.specs.Legal.{IsLegal, IsSound, legal_founding, legal_freeing, legal_restored, legal_step}
 use Rattle.project_machine.specs.ProjectState.{ProjectState}
 use Rattle.project_machine.specs.Requests.{Happened, AllFreed, Founded, Restored}

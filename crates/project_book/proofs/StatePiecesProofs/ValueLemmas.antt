@@ -11,7 +11,7 @@ use Rattle.mark_base.proofs.IdLemmas.{id_of_parts}
 use Rattle.entry_bytes.specs.declared.entry.Entry.{Entry}
 use Rattle.entry_bytes.specs.declared.entry.Entry.TheVariants as entry
 use Rattle.entry_bytes.specs.Fields.{flag, u32_bytes}
-use Rattle.annotation_conf.specs.Configurations.{Configuration}
+use Rattle.conf_model.specs.Configurations.{Configuration}
 use Rattle.layer_model.specs.Annotations.{Annotations}
 use Rattle.layer_model.specs.Classes.{letter_place}
 use Rattle.layer_core.specs.declared.command.Command.{Command}

@@ -7,8 +7,8 @@ use Rattle.entry_bytes.specs.declared.entry.Entry.TheVariants as entry
 use Rattle.entry_bytes.specs.Entries.{entry_bytes, IsEntry}
 use Rattle.layer_model.specs.Annotations.{Annotations}
 use Rattle.ann_writer.specs.AnnOf.{ann_of}
-use Rattle.annotation_conf.specs.Configurations.{Configuration}
-use Rattle.annotation_conf.specs.ConfText.{conf_text}
+use Rattle.conf_model.specs.Configurations.{Configuration}
+use Rattle.conf_model.specs.ConfText.{conf_text}
 use Rattle.entry_bytes.specs.declared.person.Person.{Person}
 use Rattle.project_state.specs.declared.entries.founding.Founding.{Founding}
 use Rattle.command_bytes.specs.CommandBytes.{list_bytes, scripts_bytes}

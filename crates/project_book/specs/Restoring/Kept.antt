@@ -1,10 +1,10 @@
 -- What is tested of the parts of a state, one after another (private calls only).
 use Rattle.std.specs.Prelude.{◌≡◌, ℕ, ◌+◌, ◌<◌, ◌≤◌, ◌^◌, List, length, None, false, true}
-use Rattle.annotation_conf.specs.Configurations.{Configuration}
+use Rattle.conf_model.specs.Configurations.{Configuration}
 use Rattle.ann_writer.specs.AnnOf.{ann_of}
 use Rattle.layer_model.specs.Annotations.{Annotations, no_marks}
 use Rattle.layer_core.specs.declared.command.Command.{Command}
-use Rattle.layer_core.specs.WellFormed.{Obeys}
+use Rattle.layer_rules.specs.WellFormed.{Obeys}
 use Rattle.layer_undo.specs.Replays.{first_refusal}
 use Rattle.command_bytes.specs.CommandBytes.{scripts_bytes}
 use Rattle.project_machine.specs.ProjectState.{Row, ProjectState, Snapshot, is_annotator, is_some_out}

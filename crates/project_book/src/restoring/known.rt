@@ -5,7 +5,8 @@ ghost use Rattle.project_book.specs.Restoring.Following.{IsFoundedWith, IsKnown,
 
 use crate::state_pieces::annotator_names;
 use ann_writer::written_layers_are_utf8;
-use annotation_conf::{Conf, sound_configurations_are_read_back};
+use annotation_conf::sound_configurations_are_read_back;
+use conf_model::Conf;
 use entry_bytes::{Entry, PersonList, entries_are_told_apart, read_entry};
 use mark_base::{Bytes, Memory, Slug, Text};
 use project_state::{Founding, founding_of};

@@ -3,13 +3,13 @@ ghost use Rattle.std.specs.Prelude.{IfOk, IfSome};
 ghost use Rattle.layer_model.specs.Coherent.{IsCoherent};
 
 use ann_reader::{AnnFault, read_ann};
-use annotation_conf::Conf;
 use char_documents::Doc;
 use command_bytes::{Scripts, read_scripts};
+use conf_model::Conf;
 use curator_decisions::Verdict;
 use entry_bytes::Entry;
-use layer_core::well_formed_layers_cohere;
 use layer_model::Layer;
+use layer_rules::well_formed_layers_cohere;
 use mark_base::{AnnId, Kind, Memory, Slug, Text};
 use std::alloc::Global;
 use unanimous_merge::ItemId;

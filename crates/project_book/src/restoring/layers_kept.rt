@@ -2,18 +2,18 @@
 ghost use Rattle.std.specs.Prelude.{◌≡◌, ◌+◌, ◌<◌, ◌≤◌, IfOk, None, length, true};
 ghost use Rattle.std.specs.Arc.{arc_value};
 ghost use Rattle.ann_writer.specs.AnnOf.{ann_of};
-ghost use Rattle.layer_core.specs.WellFormed.{IsWellFormed, Obeys, commit_fault};
+ghost use Rattle.layer_rules.specs.WellFormed.{IsWellFormed, Obeys, commit_fault};
 ghost use Rattle.layer_model.specs.Annotations.{no_marks};
 ghost use Rattle.layer_undo.specs.Replays.{first_refusal};
 ghost use Rattle.command_bytes.specs.CommandBytes.{scripts_bytes};
 ghost use Rattle.project_book.specs.Restoring.Kept.{HasObeyed};
 
 use ann_writer::ann_bytes;
-use annotation_conf::Conf;
 use char_documents::Doc;
 use command_bytes::{accepted_scripts_can_be_written, write_scripts};
-use layer_core::{CheckFault, check, may_commit};
+use conf_model::Conf;
 use layer_model::Layer;
+use layer_rules::{CheckFault, check, may_commit};
 use layer_undo::{DeskStart, Script, check_scripts};
 use mark_base::Memory;
 use std::alloc::Global;

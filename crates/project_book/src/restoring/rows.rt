@@ -4,9 +4,9 @@
 //! compares.
 use crate::restoring::layer_pieces::{draft_in, layer_in};
 use crate::restoring::pieces::{RowPiece, document_in, next_piece, row_in, tag_at};
-use annotation_conf::Conf;
 use char_documents::Doc;
 use command_bytes::Scripts;
+use conf_model::Conf;
 use layer_model::Layer;
 use layer_undo::Script;
 use mark_base::{Bytes, Memory, Slug};

@@ -9,9 +9,9 @@ ghost use Rattle.project_machine.specs.RequestValues.{IsDocText};
 ghost use Rattle.project_book.specs.Restoring.Kept.{HasObeyed, IsCounted, IsFitting};
 
 use crate::restoring::layers_kept::{draft_fits, is_blank, lines_fit, obeys_with};
-use annotation_conf::Conf;
 use char_documents::Doc;
 use command_bytes::{layer_is_typed, scripts_are_typed};
+use conf_model::Conf;
 use mark_base::{Memory, Slug};
 use project_state::{StoredDocument, StoredRow};
 use std::alloc::Global;

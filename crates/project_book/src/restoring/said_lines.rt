@@ -1,6 +1,6 @@
 //! Whether the lines of a layer in a run of pieces are those of one that a state can have there.
 ghost use Rattle.std.specs.Prelude.{◌≡◌, ◌+◌, ◌<◌, [], IfOk, IfSome, false, get_or, length};
-ghost use Rattle.layer_core.specs.WellFormed.{IsWellFormed};
+ghost use Rattle.layer_rules.specs.WellFormed.{IsWellFormed};
 ghost use Rattle.project_state.specs.Entries.Reading.{ReadsLayer};
 ghost use Rattle.project_book.specs.Replaying.{IsReading};
 ghost use Rattle.project_book.specs.Restoring.Following.{AreLinesOfNone, AreNoLines, IsNoneBehind, IsNoneFor, IsTextIn, IsTextOf, doc_wanted};
@@ -10,11 +10,11 @@ use crate::restoring::known::Known;
 use crate::restoring::so_far::{Before, SoFar};
 use ann_reader::{AnnFault, at_most_one_layer, files_of_a_layer, read_ann};
 use ann_writer::{ann_bytes, written_layers_are_read_back};
-use annotation_conf::Conf;
 use char_documents::{Doc, DocFault};
+use conf_model::Conf;
 use entry_bytes::{Entry, entries_are_told_apart, read_entry};
-use layer_core::may_commit;
 use layer_model::Layer;
+use layer_rules::may_commit;
 use mark_base::{Bytes, Memory, Text};
 use std::alloc::Global;
 

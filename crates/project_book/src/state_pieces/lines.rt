@@ -1,12 +1,12 @@
 //! Lines, commands and verdicts, as pieces hold them.
 ghost use Rattle.std.specs.Prelude.{◌≡◌, IfOk, IsUtf8, length};
-ghost use Rattle.layer_core.specs.WellFormed.{IsWellFormed};
+ghost use Rattle.layer_rules.specs.WellFormed.{IsWellFormed};
 ghost use Rattle.ann_writer.specs.AnnOf.{ann_of};
 ghost use Rattle.project_machine.specs.Entries.{accepts};
 
 use ann_writer::ann_bytes;
-use annotation_conf::Conf;
 use char_documents::Doc;
+use conf_model::Conf;
 use curator_decisions::Verdict;
 use layer_model::Layer;
 use mark_base::{Bytes, Memory, Text};

@@ -4,7 +4,7 @@ ghost use Rattle.std.specs.List.{AllByRecursion, enumerate_from, filter, flat_ma
 ghost use Rattle.std.specs.Arc.{arc_value};
 ghost use Rattle.ann_writer.specs.AnnOf.{ann_of};
 ghost use Rattle.entry_bytes.specs.Entries.{entry_bytes};
-ghost use Rattle.layer_core.specs.WellFormed.{IsWellFormed};
+ghost use Rattle.layer_rules.specs.WellFormed.{IsWellFormed};
 ghost use Rattle.command_bytes.specs.CommandBytes.{scripts_bytes};
 ghost use Rattle.command_bytes.specs.WritableCommands.{CanBeWritten};
 ghost use Rattle.project_machine.specs.Entries.{flags_of, has_draft, is_committed, pieces_where, row_pieces, rows_pieces};
@@ -13,9 +13,9 @@ ghost use Rattle.project_machine.specs.ProjectState.{annotators, document, row_a
 
 use crate::state_pieces::lines::lines_of;
 use crate::state_pieces::run::Run;
-use annotation_conf::Conf;
 use char_documents::Doc;
 use command_bytes::{accepted_scripts_can_be_written, write_scripts};
+use conf_model::Conf;
 use entry_bytes::{Entry, Person};
 use mark_base::{Memory, Slug};
 use project_state::{BookState, StoredDocument, StoredRow};

@@ -1,8 +1,8 @@
 //! A conversation with a project.
-use annotation_conf::Conf;
 use case_books::{reply_text, request_of};
 use case_desks::conf_of;
 use case_words::{Case, CaseFault, CaseWhat, Exchange, Report, Texts, asked_of, exchanges_of};
+use conf_model::Conf;
 use mark_base::{Slug, Steps};
 use project_book::{Reply, Request, Visitor};
 use std::alloc::Global;

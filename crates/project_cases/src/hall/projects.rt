@@ -2,8 +2,9 @@
 ghost use Rattle.std.specs.Prelude.{◌≡◌, IfOk};
 ghost use Rattle.named_disks.specs.NamedDisks.{IsIn};
 
-use annotation_conf::{Conf, read_conf};
+use annotation_conf::read_conf;
 use anyhow::{Error, Result};
+use conf_model::Conf;
 use entry_bytes::Person;
 use mark_base::{Bytes, Slug};
 use named_disks::{Disks, MemoryDisks};

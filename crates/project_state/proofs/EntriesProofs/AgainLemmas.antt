@@ -4,13 +4,13 @@ use Rattle.std.specs.Prelude.{chars, encode_utf8_all, option_map, IsUtf8, MatchO
 use Rattle.std.specs.List.{flat_map, AllByRecursion}
 use Rattle.std.proofs.lemmas.List.Concat.{flat_map-cons}
 use Rattle.entry_bytes.specs.Fields.{u32_bytes, text_bytes}
-use Rattle.annotation_conf.specs.Configurations.{Configuration}
-use Rattle.annotation_conf.specs.Sound.{IsSound}
+use Rattle.conf_model.specs.Configurations.{Configuration}
+use Rattle.conf_model.specs.Sound.{IsSound}
 use Rattle.layer_model.specs.Annotations.{Annotations}
 use Rattle.layer_model.specs.Layers.{IsLayer}
 use Rattle.layer_core.specs.declared.command.Command.{Command}
 use Rattle.layer_core.specs.declared.command.Command.TheVariants as ask
-use Rattle.layer_core.specs.WellFormed.{IsWellFormed}
+use Rattle.layer_rules.specs.WellFormed.{IsWellFormed}
 use Rattle.ann_reader.specs.AnnFaults.{ann_fault}
 use Rattle.ann_reader.specs.AnnFiles.{IsAnn}
 use Rattle.ann_reader.specs.LineFaults.{Fault}

@@ -1,6 +1,6 @@
 -- A park that is read of an entry.
 use Rattle.std.proofs.Common.{◌≡◌, ℕ, List, Option, Some, ap₂, subst}
-use Rattle.annotation_conf.specs.Configurations.{Configuration}
+use Rattle.conf_model.specs.Configurations.{Configuration}
 use Rattle.layer_core.specs.declared.command.Command.{Command}
 use Rattle.command_bytes.specs.declared.read_commands.Scripts.{Scripts}
 use Rattle.project_machine.specs.Requests.{Asked, Park}

@@ -16,7 +16,7 @@ use Rattle.entry_bytes.specs.Fields.{IsSlug}
 use Rattle.layer_model.specs.Annotations.{Annotations}
 use Rattle.layer_model.specs.Classes.{letter_place}
 use Rattle.layer_core.specs.declared.command.Command.{Command}
-use Rattle.layer_core.specs.WellFormed.{IsWellFormed}
+use Rattle.layer_rules.specs.WellFormed.{IsWellFormed}
 use Rattle.curator_decisions.specs.declared.verdict.Verdict.{Verdict}
 use Rattle.curator_decisions.specs.declared.verdict.Verdict.TheVariants.{Accept, Reject}
 use Rattle.project_machine.specs.declared.book_refusal.BookRefusal.{BookRefusal}

@@ -3,9 +3,9 @@ use Rattle.std.specs.Prelude.{◌≡◌, ℕ, List, Ok}
 use Rattle.std.specs.Arc.{arc_value}
 use Rattle.entry_bytes.specs.declared.entry.Entry.{Entry}
 use Rattle.entry_bytes.specs.declared.person.Person.{Person}
-use Rattle.annotation_conf.specs.ConfOf.{conf_of}
-use Rattle.annotation_conf.specs.ConfText.{conf_text}
-use Rattle.annotation_conf.specs.Configurations.{Configuration}
+use Rattle.conf_model.specs.ConfOf.{conf_of}
+use Rattle.conf_model.specs.ConfText.{conf_text}
+use Rattle.conf_model.specs.Configurations.{Configuration}
 use Rattle.project_machine.specs.Entries.{founding_entry}
 use Rattle.project_machine.specs.Legal.{IsFounding}
 use Rattle.project_machine.specs.Requests.{Happened, Founded}

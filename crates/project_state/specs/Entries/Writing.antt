@@ -3,7 +3,7 @@ use Rattle.std.specs.Prelude.{ℕ, ◌<◌, ◌==◌, Bool, true, false, List, [
 use Rattle.std.specs.List.{AllByRecursion}
 use Rattle.entry_bytes.specs.declared.entry.Entry.{Entry}
 use Rattle.entry_bytes.specs.declared.entry.Entry.TheVariants as entry
-use Rattle.layer_core.specs.WellFormed.{IsWellFormed}
+use Rattle.layer_rules.specs.WellFormed.{IsWellFormed}
 use Rattle.command_bytes.specs.WritableCommands.{CanBeWritten}
 use Rattle.project_machine.specs.ProjectState.{ProjectState, document}
 use Rattle.project_machine.specs.Requests.{Happened, LayerCommitted, LayerParked}

@@ -11,7 +11,7 @@ use crate::entries::asked::{
 use crate::{BookState, Request};
 use command_bytes::accepted_scripts_can_be_written;
 use entry_bytes::Entry;
-use layer_core::unflawed_layers;
+use layer_rules::unflawed_layers;
 use mark_base::{Memory, Slug};
 use std::alloc::Global;
 

@@ -2,8 +2,8 @@
 ghost use Rattle.std.specs.Prelude.{◌≡◌, ◌<◌, length, IfOk, OnOk};
 ghost use Rattle.std.specs.Arc.{arc_value};
 ghost use Rattle.std.specs.List.{AllByRecursion};
-ghost use Rattle.annotation_conf.specs.ConfText.{conf_text};
-ghost use Rattle.layer_core.specs.WellFormed.{IsWellFormed};
+ghost use Rattle.conf_model.specs.ConfText.{conf_text};
+ghost use Rattle.layer_rules.specs.WellFormed.{IsWellFormed};
 ghost use Rattle.layer_model.specs.Classes.{letter_place};
 ghost use Rattle.command_bytes.specs.CommandBytes.{scripts_bytes};
 ghost use Rattle.command_bytes.specs.WritableCommands.{CanBeWritten};
@@ -15,8 +15,9 @@ ghost use Rattle.project_state.specs.Entries.Writing.{CanBeEntered, HasFewPeople
 use crate::entries::lines::{commands_in, lines_in};
 use crate::entries::verdicts::accepts;
 use crate::{BookState, Change, Roster};
-use annotation_conf::{Conf, write_conf};
+use annotation_conf::write_conf;
 use char_documents::Doc;
+use conf_model::Conf;
 use curator_decisions::Verdict;
 use entry_bytes::{Entry, PersonList};
 use layer_model::{Layer, letter_place};

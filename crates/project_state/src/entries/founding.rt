@@ -4,10 +4,10 @@ ghost use Rattle.std.specs.Arc.{arc_value};
 ghost use Rattle.std.specs.List.{AllByRecursion};
 ghost use Rattle.entry_bytes.specs.declared.person.Person.{Person};
 ghost use Rattle.entry_bytes.specs.Fields.{IsSlug};
-ghost use Rattle.annotation_conf.specs.ConfOf.{conf_of};
-ghost use Rattle.annotation_conf.specs.ConfText.{conf_text};
-ghost use Rattle.annotation_conf.specs.Configurations.{Configuration};
-ghost use Rattle.annotation_conf.specs.Sound.{IsSound};
+ghost use Rattle.conf_model.specs.ConfOf.{conf_of};
+ghost use Rattle.conf_model.specs.ConfText.{conf_text};
+ghost use Rattle.conf_model.specs.Configurations.{Configuration};
+ghost use Rattle.conf_model.specs.Sound.{IsSound};
 ghost use Rattle.project_machine.specs.People.{in_name_order, roster_fault, IsRoster};
 ghost use Rattle.project_machine.specs.Requests.{Founded};
 ghost use Rattle.project_state.specs.Entries.Founding.{founded, IsFoundingOf, IsReadBack};
@@ -15,7 +15,8 @@ ghost use Rattle.project_state.specs.Entries.FoundingReading.{ReadsFields, Reads
 
 use crate::limits::LONGEST_CONF;
 use crate::{Roster, RosterFault, rosters_can_found};
-use annotation_conf::{Conf, ConfFault, read_conf, sound_configurations_are_read_back, write_conf};
+use annotation_conf::{read_conf, sound_configurations_are_read_back, write_conf};
+use conf_model::{Conf, ConfFault};
 use entry_bytes::{Entry, Person, PersonList};
 use mark_base::{Memory, Text};
 use std::alloc::Global;

@@ -6,7 +6,7 @@ ghost use Rattle.project_machine.specs.Requests.{Asked, Happened};
 ghost use Rattle.project_state.specs.Entries.Writing.{CanBeEntered};
 
 use command_bytes::accepted_scripts_can_be_written;
-use layer_core::unflawed_layers;
+use layer_rules::unflawed_layers;
 
 /// The change that a request makes which is not refused can be written as an entry.
 pub fn accepted_changes_can_be_entered()

@@ -1,7 +1,7 @@
 //! The .ann lines and the commands of a document, as entries hold them.
 ghost use Rattle.std.specs.Prelude.{◌≡◌, ◌<◌, length, IfOk, IsUtf8};
 ghost use Rattle.std.specs.List.{AllByRecursion};
-ghost use Rattle.layer_core.specs.WellFormed.{IsWellFormed};
+ghost use Rattle.layer_rules.specs.WellFormed.{IsWellFormed};
 ghost use Rattle.command_bytes.specs.CommandBytes.{scripts_bytes};
 ghost use Rattle.command_bytes.specs.WritableCommands.{CanBeWritten};
 ghost use Rattle.project_machine.specs.Entries.{lines_in};
@@ -13,12 +13,12 @@ use crate::entries::documents::document_at;
 use crate::limits::LONGEST_LINES;
 use ann_reader::{AnnFault, at_most_one_layer, files_of_a_layer, read_ann};
 use ann_writer::{ann_bytes, written_layers_are_read_back};
-use annotation_conf::Conf;
 use char_documents::Doc;
 use command_bytes::{
     Scripts, loads_are_read_again, read_scripts, scripts_are_told_apart,
     typed_scripts_are_read_again, write_scripts,
 };
+use conf_model::Conf;
 use layer_model::Layer;
 use layer_undo::Script;
 use mark_base::{Bytes, Memory, Text};

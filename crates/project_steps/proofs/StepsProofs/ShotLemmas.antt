@@ -8,7 +8,7 @@ use Rattle.std.proofs.lemmas.Option.{get_or_from_slice_get}
 use Rattle.std.proofs.lemmas.List.{get_or_push, length_push, map_push, take_more}
 use Rattle.std.proofs.lemmas.List.Elements.{All-get_or}
 use Rattle.std.proofs.lemmas.List.Sums.{position_or_len_is}
-use Rattle.annotation_conf.specs.Configurations.{Configuration}
+use Rattle.conf_model.specs.Configurations.{Configuration}
 use Rattle.layer_model.specs.Annotations.{Annotations, no_marks}
 use Rattle.layer_model.specs.Snapshots.{AreHolders, row_of}
 use Rattle.std.specs.declared.sync.Arc.{Arc}
@@ -28,7 +28,7 @@ use Rattle.project_machine.specs.ProjectState.{ProjectState, Snapshot, finished_
 use Rattle.project_machine.specs.Requests.{Decide, Undecide, SnapshotTaken, TakeSnapshot}
 use Rattle.project_machine.specs.Machine.{decidable, first_of, holds, taken, tests, undecidable, when}
 use Rattle.project_machine.specs.History.{effect, new_snapshot}
-use Rattle.layer_core.specs.WellFormed.{IsWellFormed}
+use Rattle.layer_rules.specs.WellFormed.{IsWellFormed}
 use Rattle.layer_model.specs.Coherent.{IsCoherent}
 use Rattle.layer_model.specs.Layers.{IsLayer}
 use Rattle.project_machine.specs.Legal.{IsKept, IsSnapshotKept, LayerObeys}

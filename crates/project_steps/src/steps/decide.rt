@@ -15,7 +15,7 @@ use crate::steps::accepted::{Accepted, Made, Outcome};
 use crate::steps::parts::{share, share_conf};
 use crate::steps::shots::{copy_snapshot, holder_of, snapshot_numbered};
 use curator_decisions::{DecisionFault, Decisions, Verdict};
-use layer_core::well_formed_layers_cohere;
+use layer_rules::well_formed_layers_cohere;
 use mark_base::{AnnId, Memory, Slug};
 use project_state::{Act, BookRefusal, BookState, Change, Reply, SnapshotView, StoredSnapshot};
 use std::alloc::Global;

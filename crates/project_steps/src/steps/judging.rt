@@ -18,7 +18,7 @@ use crate::steps::policies::refuses_caller;
 use crate::steps::snap::snap;
 use crate::steps::texts::{decided_number, refusal_text};
 use kappa_alpha::Tables;
-use layer_core::unflawed_layers;
+use layer_rules::unflawed_layers;
 use mark_base::{Bytes, Memory, Slug};
 use project_state::{
     Act, BookRefusal, BookState, Change, Reply, Request, Written, accepted_changes_can_be_entered,

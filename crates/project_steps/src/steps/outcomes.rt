@@ -1,7 +1,7 @@
 //! What is made of each request of one who may make it.
 ghost use Rattle.std.specs.Prelude.{◌≡◌, IfOk, true};
 ghost use Rattle.std.specs.Arc.{arc_value};
-ghost use Rattle.layer_core.specs.WellFormed.{IsWellFormed};
+ghost use Rattle.layer_rules.specs.WellFormed.{IsWellFormed};
 ghost use Rattle.project_machine.specs.Machine.{size_of};
 ghost use Rattle.project_machine.specs.ProjectState.{is_annotator, row_in};
 ghost use Rattle.project_machine.specs.Requests.{AddText, Checkout, Commit, Finish, Ignore, Park, ReadLayer, ReadText, Readmit, Reopen, TakeOver};

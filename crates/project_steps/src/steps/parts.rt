@@ -6,8 +6,8 @@ ghost use Rattle.project_machine.specs.ProjectState.{document, is_there, number_
 ghost use Rattle.project_state.specs.Values as plain;
 
 use crate::steps::rows::revision;
-use annotation_conf::Conf;
 use char_documents::Doc;
+use conf_model::Conf;
 use layer_model::Layer;
 use layer_undo::Script;
 use mark_base::{Memory, Slug};

@@ -1,16 +1,16 @@
 //! Why a request is refused.
 ghost use Rattle.std.specs.Prelude.{◌≡◌, IfOk, is_some, length};
 ghost use Rattle.std.specs.Arc.{arc_value};
-ghost use Rattle.layer_core.specs.WellFormed.{IsWellFormed};
+ghost use Rattle.layer_rules.specs.WellFormed.{IsWellFormed};
 ghost use Rattle.project_machine.specs.Machine.{commit_rule, first_of, has_layer, held, is_full, park_rule, size_of, taken, tests, there};
 ghost use Rattle.project_machine.specs.ProjectState.{row_in};
 ghost use Rattle.project_machine.specs.Requests.{AddText, Checkout, Commit, Finish, Ignore, Park, ReadLayer, ReadText, Readmit, Reopen, TakeOver, TakeSnapshot};
 
 use crate::steps::rows::{is_finished, is_ignored, is_out, revision};
-use annotation_conf::Conf;
 use char_documents::Doc;
-use layer_core::{CheckFault, check, may_commit, unflawed_layers};
+use conf_model::Conf;
 use layer_model::{Layer, Rule};
+use layer_rules::{CheckFault, check, may_commit, unflawed_layers};
 use layer_undo::{DeskStart, Script, check_scripts};
 use mark_base::{Memory, Slug};
 use project_state::{BookRefusal, BookState, MOST_CHARACTERS, MOST_DOCUMENTS};

@@ -1,6 +1,6 @@
 //! What a refusal names.
 ghost use Rattle.std.specs.Prelude.{◌≡◌, ◌++◌, ◌-◌, [], IfOk, codes, decimal, get_or, unwrap_or};
-ghost use Rattle.layer_core.specs.NamedByRule.{id_text, named_by_rule};
+ghost use Rattle.layer_rules.specs.NamedByRule.{id_text, named_by_rule};
 ghost use Rattle.layer_model.specs.Annotations.{no_marks};
 ghost use Rattle.project_machine.specs.Machine.{fault_text, of_text, policy_text};
 ghost use Rattle.project_machine.specs.ProjectState.{no_snapshot, snapshot};
@@ -8,10 +8,10 @@ ghost use Rattle.project_machine.specs.Requests.{Asked};
 ghost use Rattle.project_state.specs.Values.{asked_of};
 ghost use Rattle.project_steps.specs.Steps.Judging.{decided_number, snapshot_decided};
 
-use annotation_conf::Conf;
+use conf_model::Conf;
 use curator_decisions::DecisionFault;
-use layer_core::{id_text, named_by_rule};
 use layer_model::Rule;
+use layer_rules::{id_text, named_by_rule};
 use mark_base::{Memory, Text};
 use project_state::{BookRefusal, BookState, Policy, Request, StoredSnapshot};
 use std::alloc::Global;

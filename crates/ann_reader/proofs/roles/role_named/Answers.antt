@@ -1,5 +1,5 @@
 use Rattle.std.proofs.Common.{sym, ◌∙◌}
-use Rattle.annotation_conf.specs.Lookups.{roles_of}
+use Rattle.conf_model.specs.Lookups.{roles_of}
 use Rattle.ann_reader.proofs.RoleLemmas.{found_here, passed, past_all}
 use Rattle.ann_reader.proofs.roles.role_named.Goals as goal
 

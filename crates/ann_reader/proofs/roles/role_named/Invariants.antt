@@ -1,7 +1,7 @@
 use Rattle.std.proofs.Common.{◌≡◌, drop}
 use Rattle.std.specs.Prelude.{bytes_eq}
 use Rattle.std.specs.List.{position_from}
-use Rattle.annotation_conf.specs.Lookups.{role_named, roles_of}
+use Rattle.conf_model.specs.Lookups.{role_named, roles_of}
 use Rattle.ann_reader.proofs.roles.role_named.Given as goal
 
 abbrev pub invariant-loop-place : goal.invariant-loop-place

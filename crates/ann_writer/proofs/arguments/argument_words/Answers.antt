@@ -1,7 +1,7 @@
 use Rattle.std.proofs.Common.{◌≡◌, ◌<◌, ◌+◌, length, sym, ◌∙◌, ap, subst, arith, take, length-set, slice_index, slice_set}
 use Rattle.mark_base.specs.declared.arguments.Arg.{Arg}
-use Rattle.annotation_conf.specs.Lookups.{roles_of}
-use Rattle.layer_core.specs.MarkRules.{filled}
+use Rattle.conf_model.specs.Lookups.{roles_of}
+use Rattle.layer_rules.specs.MarkRules.{filled}
 use Rattle.ann_writer.specs.RoleCounts.{AreCounts}
 use Rattle.ann_writer.proofs.CountLemmas.{one_word, counted}
 use Rattle.ann_writer.proofs.arguments.argument_words.Goals as goal

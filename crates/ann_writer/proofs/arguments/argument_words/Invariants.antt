@@ -1,5 +1,5 @@
 use Rattle.std.proofs.Common.{◌≡◌, ◌++◌, [], take, drop, length}
-use Rattle.annotation_conf.specs.Lookups.{roles_of}
+use Rattle.conf_model.specs.Lookups.{roles_of}
 use Rattle.ann_writer.specs.Words.{argument_words}
 use Rattle.ann_writer.specs.RoleCounts.{AreCounts}
 use Rattle.ann_writer.proofs.arguments.argument_words.Given as goal

@@ -1,6 +1,6 @@
 use Rattle.std.proofs.Common.{List, ℕ, subst, sym}
 use Rattle.std.specs.Arc.{arc_value}
-use Rattle.annotation_conf.specs.Configurations.{Configuration}
+use Rattle.conf_model.specs.Configurations.{Configuration}
 use Rattle.layer_model.specs.Annotations.{Annotations}
 use Rattle.ann_reader.specs.AnnFiles.{IsAnn}
 use Rattle.project_state.specs.Values.{view_of}

@@ -1,8 +1,8 @@
 use Rattle.std.proofs.Common.{◌≡◌, ◌∙◌, List, ap, subst, map, IfOk}
 use Rattle.annotation_conf.specs.declared.file.File.{File as FileValue}
-use Rattle.annotation_conf.specs.ConfNames.{File}
+use Rattle.conf_model.specs.ConfNames.{File}
 use Rattle.annotation_conf.specs.KnownFiles.{IsKnown}
-use Rattle.annotation_conf.specs.Configurations.{AttributeType}
+use Rattle.conf_model.specs.declared.attribute_type.AttributeType.{AttributeType}
 use Rattle.annotation_conf.specs.BuildTold.{attribute_kept}
 use Rattle.annotation_conf.proofs.BuildTables.{attributes_shown}
 use Rattle.std.proofs.lemmas.List.Elements.{All-same}

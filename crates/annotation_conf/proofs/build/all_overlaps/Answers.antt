@@ -1,8 +1,8 @@
 use Rattle.std.proofs.Common.{◌≡◌, ◌∙◌, List, ap, subst, map, IfOk}
 use Rattle.annotation_conf.specs.declared.file.File.{File as FileValue}
-use Rattle.annotation_conf.specs.ConfNames.{File}
+use Rattle.conf_model.specs.ConfNames.{File}
 use Rattle.annotation_conf.specs.KnownFiles.{IsKnown}
-use Rattle.annotation_conf.specs.Configurations.{Overlap}
+use Rattle.conf_model.specs.declared.overlap_line.Overlap.{Overlap}
 use Rattle.annotation_conf.specs.BuildTold.{overlap_kept}
 use Rattle.annotation_conf.proofs.BuildTables.{overlaps_shown}
 use Rattle.annotation_conf.proofs.build.all_overlaps.Goals as goal

@@ -1,8 +1,8 @@
 use Rattle.std.proofs.Common.{◌≡◌, ◌∙◌, List, ap, subst, map, IfOk}
 use Rattle.annotation_conf.specs.declared.file.File.{File as FileValue}
-use Rattle.annotation_conf.specs.ConfNames.{File}
+use Rattle.conf_model.specs.ConfNames.{File}
 use Rattle.annotation_conf.specs.KnownFiles.{IsKnown}
-use Rattle.annotation_conf.specs.Configurations.{RelationType}
+use Rattle.conf_model.specs.declared.relation_type.RelationType.{RelationType}
 use Rattle.annotation_conf.specs.BuildTold.{relation_kept, firsts_kept}
 use Rattle.annotation_conf.proofs.BuildTables.{relations_shown}
 use Rattle.std.proofs.lemmas.List.Elements.{All-same}

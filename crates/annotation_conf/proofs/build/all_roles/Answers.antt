@@ -1,8 +1,8 @@
 use Rattle.std.proofs.Common.{◌≡◌, ◌∙◌, ◌++◌, [], List, ap, subst, map, IfOk}
 use Rattle.annotation_conf.specs.declared.file.File.{File as FileValue}
-use Rattle.annotation_conf.specs.ConfNames.{File}
+use Rattle.conf_model.specs.ConfNames.{File}
 use Rattle.annotation_conf.specs.KnownFiles.{IsKnown}
-use Rattle.annotation_conf.specs.Configurations.{Role}
+use Rattle.conf_model.specs.declared.role.Role.{Role}
 use Rattle.annotation_conf.specs.declared.file.TypeLine.{TypeLine}
 use Rattle.annotation_conf.specs.BuildTold.{roles_kept}
 use Rattle.annotation_conf.proofs.BuildTables.{roles_shown}

@@ -4,8 +4,8 @@ use Rattle.std.proofs.lemmas.List.Elements.{All-same}
 use Rattle.type_hierarchy.specs.declared.type_row.TypeRow.{TypeRow}
 use Rattle.annotation_conf.specs.declared.file.File.{File as FileValue}
 use Rattle.annotation_conf.specs.declared.file.TypeLine.{TypeLine}
-use Rattle.annotation_conf.specs.ConfNames.{File}
-use Rattle.annotation_conf.specs.ConfOf.{rows_from}
+use Rattle.conf_model.specs.ConfNames.{File}
+use Rattle.conf_model.specs.ConfOf.{rows_from}
 use Rattle.annotation_conf.specs.KnownFiles.{IsKnown}
 use Rattle.annotation_conf.specs.BuildTold.{bare_type, IsTypeNamed}
 use Rattle.annotation_conf.proofs.BuildNamed.{entities_named, events_named}

@@ -1,6 +1,6 @@
 use Rattle.std.proofs.Common.{◌≡◌, sym, subst, IfOk}
-use Rattle.annotation_conf.specs.ConfNames.{File}
-use Rattle.annotation_conf.specs.ConfOf.{configuration_of}
+use Rattle.conf_model.specs.ConfNames.{File}
+use Rattle.conf_model.specs.ConfOf.{configuration_of}
 use Rattle.annotation_conf.specs.BuildTold.{IsFaultless}
 use Rattle.annotation_conf.proofs.BuildLaws.{tables_are}
 use Rattle.annotation_conf.proofs.build.build.Goals as goal

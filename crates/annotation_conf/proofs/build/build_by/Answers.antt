@@ -1,6 +1,6 @@
 use Rattle.std.proofs.Common.{◌≡◌, ◌∙◌, None, sym, subst}
 use Rattle.type_hierarchy.specs.TypeFaults.{fault_of}
-use Rattle.annotation_conf.specs.Kept.{IsKept}
+use Rattle.conf_model.specs.Kept.{IsKept}
 use Rattle.annotation_conf.proofs.BuildLaws.{kept_is, conf_same}
 use Rattle.annotation_conf.proofs.BuildTables.{keeps_faultless}
 use Rattle.annotation_conf.proofs.SoundSizes.{types_sound}

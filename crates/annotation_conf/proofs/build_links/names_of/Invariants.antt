@@ -1,5 +1,5 @@
 use Rattle.std.proofs.Common.{◌≡◌, map, take}
-use Rattle.annotation_conf.specs.ConfFaults.{word_of}
+use Rattle.conf_model.specs.ConfFaults.{word_of}
 use Rattle.annotation_conf.specs.FileShows.{seen_alternative}
 use Rattle.annotation_conf.proofs.build_links.names_of.Given as goal
 

@@ -1,5 +1,5 @@
 use Rattle.std.proofs.Common.{◌∙◌, sym, ap}
-use Rattle.annotation_conf.specs.ConfFaults.{bound_names, of_named, firsts}
+use Rattle.conf_model.specs.ConfFaults.{bound_names, of_named, firsts}
 use Rattle.annotation_conf.specs.BuildPlaces.{names_in, place_in}
 use Rattle.annotation_conf.proofs.BuildHeld.{place_same}
 use Rattle.annotation_conf.proofs.build_places.find_place.Goals as goal

@@ -2,7 +2,7 @@ use Rattle.std.proofs.Common.{◌≡◌, ◌∙◌, ◌<◌, ◌++◌, ◌∷◌
 use Rattle.std.proofs.lemmas.List.{length-map, length-take-le}
 use Rattle.annotation_conf.specs.declared.file.MacroLine.{MacroLine as MacroLineValue}
 use Rattle.annotation_conf.specs.declared.build_places.Table.{Table}
-use Rattle.annotation_conf.specs.ConfNames.{File, MacroLine, all_held}
+use Rattle.conf_model.specs.ConfNames.{File, MacroLine, all_held}
 use Rattle.annotation_conf.specs.FileKept.{kept_macro}
 use Rattle.annotation_conf.specs.FileShows.{seen_alternative, seen_macro}
 use Rattle.annotation_conf.specs.BuildPlaces.{places_held}

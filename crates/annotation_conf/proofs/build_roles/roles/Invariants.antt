@@ -1,5 +1,5 @@
 use Rattle.std.proofs.Common.{◌≡◌, map, take}
-use Rattle.annotation_conf.specs.ConfOf.{role_of}
+use Rattle.conf_model.specs.ConfOf.{role_of}
 use Rattle.annotation_conf.specs.FileShows.{seen_pair}
 use Rattle.annotation_conf.proofs.build_roles.roles.Given as goal
 

@@ -3,7 +3,7 @@ use Rattle.std.specs.BTreeMap.{get, is_at}
 use Rattle.std.specs.Ordering.{nat_cmp}
 use Rattle.std.proofs.lemmas.List.{length-append}
 use Rattle.annotation_conf.specs.declared.file.TypeLine.{TypeLine}
-use Rattle.annotation_conf.specs.ConfOf.{rows_from}
+use Rattle.conf_model.specs.ConfOf.{rows_from}
 use Rattle.annotation_conf.specs.BuildTold.{bare_type, parent_by}
 use Rattle.annotation_conf.proofs.BuildRows.{depths_more, rows_more}
 use Rattle.annotation_conf.proofs.build_types.type_rows.Goals as goal

@@ -1,5 +1,5 @@
 use Rattle.std.proofs.Common.{◌≡◌, ◌+◌, ◌++◌, map, take, drop, length, []}
-use Rattle.annotation_conf.specs.ConfOf.{rows_from}
+use Rattle.conf_model.specs.ConfOf.{rows_from}
 use Rattle.annotation_conf.specs.BuildTold.{bare_type, FindsDepths}
 use Rattle.annotation_conf.proofs.build_types.type_rows.Given as goal
 

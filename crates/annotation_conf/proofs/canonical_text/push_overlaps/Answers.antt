@@ -1,8 +1,8 @@
 use Rattle.std.proofs.Common.{◌≡◌, ◌++◌, ◌+◌, ◌∙◌, ap, sym, string_bytes, take, List, ℕ, ◌∷◌, []}
 use Rattle.std.specs.List.{flat_map}
 use Rattle.std.proofs.lemmas.List.{flat_map_more, take_more}
-use Rattle.annotation_conf.specs.declared.overlap_line.Overlap.{Overlap}
-use Rattle.annotation_conf.specs.ConfText.{overlap_text}
+use Rattle.conf_model.specs.declared.overlap_line.Overlap.{Overlap}
+use Rattle.conf_model.specs.ConfText.{overlap_text}
 use Rattle.annotation_conf.proofs.canonical_text.push_overlaps.Goals as goal
 
 pub loop-line-preserved : goal.loop-line-preserved

@@ -1,6 +1,6 @@
 use Rattle.std.proofs.Common.{◌≡◌, ◌++◌, string_bytes, take}
 use Rattle.std.specs.List.{flat_map}
-use Rattle.annotation_conf.specs.ConfText.{overlap_text}
+use Rattle.conf_model.specs.ConfText.{overlap_text}
 use Rattle.annotation_conf.proofs.canonical_text.push_overlaps.Given as goal
 
 abbrev pub invariant-loop-line : goal.invariant-loop-line

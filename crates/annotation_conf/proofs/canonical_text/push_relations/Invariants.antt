@@ -1,6 +1,6 @@
 use Rattle.std.proofs.Common.{◌≡◌, ◌++◌, string_bytes, take}
 use Rattle.std.specs.List.{flat_map}
-use Rattle.annotation_conf.specs.ConfText.{relation_text}
+use Rattle.conf_model.specs.ConfText.{relation_text}
 use Rattle.annotation_conf.proofs.canonical_text.push_relations.Given as goal
 
 abbrev pub invariant-loop-relation : goal.invariant-loop-relation

@@ -1,5 +1,5 @@
 use Rattle.std.proofs.Common.{◌≡◌, ◌++◌, map, take}
-use Rattle.annotation_conf.specs.ConfText.{role_text}
+use Rattle.conf_model.specs.ConfText.{role_text}
 use Rattle.annotation_conf.proofs.canonical_text.push_roles.Given as goal
 
 abbrev pub invariant-loop-role : goal.invariant-loop-role

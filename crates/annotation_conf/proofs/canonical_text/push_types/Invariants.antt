@@ -1,6 +1,6 @@
 use Rattle.std.proofs.Common.{◌≡◌, ◌++◌, string_bytes, drop, filter, cond, true, false}
 use Rattle.std.specs.List.{flat_map, enumerate_from}
-use Rattle.annotation_conf.specs.ConfText.{type_text}
+use Rattle.conf_model.specs.ConfText.{type_text}
 use Rattle.annotation_conf.proofs.canonical_text.push_types.Given as goal
 
 abbrev pub invariant-loop-row : goal.invariant-loop-row

@@ -1,8 +1,10 @@
 use Rattle.std.proofs.Common.{◌≡◌, ◌++◌, ◌∙◌, ap, cond, string_bytes, rules, List, ℕ, codes, filter, false, true}
 use Rattle.std.specs.List.{flat_map, enumerate_from}
 use Rattle.type_hierarchy.specs.declared.type_row.TypeRow.{TypeRow}
-use Rattle.annotation_conf.specs.Configurations.{RelationType, AttributeType, Overlap}
-use Rattle.annotation_conf.specs.ConfText.{type_text, relation_text, overlap_text, attribute_text, conf_text}
+use Rattle.conf_model.specs.declared.relation_type.RelationType.{RelationType}
+use Rattle.conf_model.specs.declared.attribute_type.AttributeType.{AttributeType}
+use Rattle.conf_model.specs.declared.overlap_line.Overlap.{Overlap}
+use Rattle.conf_model.specs.ConfText.{type_text, relation_text, overlap_text, attribute_text, conf_text}
 use Rattle.annotation_conf.proofs.canonical_text.write_conf.Goals as goal
 
 pub returns-clause-text : goal.returns-clause-text

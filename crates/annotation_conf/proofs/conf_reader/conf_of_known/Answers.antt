@@ -1,5 +1,5 @@
 use Rattle.std.proofs.Common.{◌∙◌, ◌<◌, Ok, sym, ap, subst, option_map, length}
-use Rattle.annotation_conf.specs.ConfNames.{File}
+use Rattle.conf_model.specs.ConfNames.{File}
 use Rattle.annotation_conf.specs.FaultsFirst.{seen_fault}
 use Rattle.annotation_conf.proofs.FaultAnswers.{text_faulty, text_faultless, few_lines}
 use Rattle.annotation_conf.proofs.conf_reader.conf_of_known.Goals as goal

@@ -1,5 +1,5 @@
 use Rattle.std.proofs.Common.{◌≡◌, ◌++◌, map, filter, not, take}
-use Rattle.annotation_conf.specs.ConfText.{relation_name_at, has_type_named}
+use Rattle.conf_model.specs.ConfText.{relation_name_at, has_type_named}
 use Rattle.annotation_conf.proofs.conf_words.push_relation_names.Given as goal
 
 abbrev pub invariant-loop-place : goal.invariant-loop-place

@@ -1,5 +1,5 @@
 use Rattle.std.proofs.Common.{◌≡◌, ◌++◌, map, take}
-use Rattle.annotation_conf.specs.ConfText.{type_name_at}
+use Rattle.conf_model.specs.ConfText.{type_name_at}
 use Rattle.annotation_conf.proofs.conf_words.push_type_names.Given as goal
 
 abbrev pub invariant-loop-place : goal.invariant-loop-place

@@ -1,8 +1,8 @@
 use Rattle.std.proofs.Common.{◌≡◌, ◌∙◌, sym, ap, subst, option_map, length, arith}
 use Rattle.std.specs.Option.{option_or}
 use Rattle.std.proofs.lemmas.List.{length-map}
-use Rattle.annotation_conf.specs.ConfNames.{File}
-use Rattle.annotation_conf.specs.ConfOf.{missing_fault}
+use Rattle.conf_model.specs.ConfNames.{File}
+use Rattle.conf_model.specs.ConfOf.{missing_fault}
 use Rattle.annotation_conf.specs.FileKept.{kept_line}
 use Rattle.annotation_conf.specs.FileShows.{seen_line}
 use Rattle.annotation_conf.specs.KnownFiles.{IsKnown}

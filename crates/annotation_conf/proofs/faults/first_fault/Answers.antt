@@ -2,10 +2,10 @@ use Rattle.std.proofs.Common.{◌≡◌, ◌∙◌, [], false, Option, None, ap,
 use Rattle.annotation_conf.specs.declared.file.File.{File as FileValue}
 use Rattle.annotation_conf.specs.declared.line.Section.{Section}
 use Rattle.annotation_conf.specs.declared.line.Section.TheVariants.{Entities, Relations, Events, Attributes}
-use Rattle.annotation_conf.specs.ConfNames.{File, TypeLine, NamedLine, MacroLine}
-use Rattle.annotation_conf.specs.ConfLines.{Line}
-use Rattle.annotation_conf.specs.ConfFaults.{type_fault, relation_fault, overlap_fault, attribute_fault}
-use Rattle.annotation_conf.specs.ConfOf.{Fault}
+use Rattle.conf_model.specs.ConfNames.{File, TypeLine, NamedLine, MacroLine}
+use Rattle.conf_model.specs.ConfLines.{Line}
+use Rattle.conf_model.specs.ConfFaults.{type_fault, relation_fault, overlap_fault, attribute_fault}
+use Rattle.conf_model.specs.ConfOf.{Fault}
 use Rattle.annotation_conf.specs.FirstFaults.{first_among, sooner, soonest_fault, bare_fault, event_fault, macro_line_fault}
 use Rattle.annotation_conf.specs.KnownFiles.{IsKnown}
 use Rattle.annotation_conf.specs.FaultsTold.{relation_told, overlap_told, attribute_told}

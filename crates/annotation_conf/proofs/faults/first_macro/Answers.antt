@@ -1,6 +1,6 @@
 use Rattle.std.proofs.Common.{◌≡◌, ◌∙◌, sym, ap, subst, length, arith, take}
 use Rattle.std.proofs.lemmas.List.{length-map}
-use Rattle.annotation_conf.specs.ConfNames.{File, MacroLine}
+use Rattle.conf_model.specs.ConfNames.{File, MacroLine}
 use Rattle.annotation_conf.specs.KnownMacros.{kinds_of, AreFirstKinds}
 use Rattle.annotation_conf.proofs.FaultMacros.{front_kinds}
 use Rattle.annotation_conf.proofs.faults.first_macro.Goals as goal

@@ -1,7 +1,7 @@
 use Rattle.std.proofs.Common.{◌≡◌, ◌∙◌, ◌-◌, ◌<◌, sym, ap, subst, length, arith, get_or, Option, Some, None, true}
 use Rattle.std.specs.Option.{option_map_or}
-use Rattle.annotation_conf.specs.ConfNames.{File, NamedLine}
-use Rattle.annotation_conf.specs.ConfFaults.{of_named}
+use Rattle.conf_model.specs.ConfNames.{File, NamedLine}
+use Rattle.conf_model.specs.ConfFaults.{of_named}
 use Rattle.annotation_conf.specs.NamePlaces.{place_among}
 use Rattle.annotation_conf.specs.KnownFiles.{IsKnown}
 use Rattle.annotation_conf.specs.FileKept.{KeptNamed, kept_named}

@@ -1,5 +1,5 @@
 use Rattle.std.proofs.Common.{◌≡◌, ◌∙◌, List, ℕ, sym, ap, subst, map, IfOk}
-use Rattle.annotation_conf.specs.ConfFaults.{has_kinds}
+use Rattle.conf_model.specs.ConfFaults.{has_kinds}
 use Rattle.annotation_conf.specs.declared.pieces.KeyedPair.{KeyedPair}
 use Rattle.annotation_conf.specs.FaultsTold.{kinds_in}
 use Rattle.annotation_conf.proofs.FaultLists.{map_twice}

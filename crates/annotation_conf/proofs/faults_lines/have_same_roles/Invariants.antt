@@ -1,5 +1,5 @@
 use Rattle.std.proofs.Common.{◌≡◌, length, map}
-use Rattle.annotation_conf.specs.ConfFaults.{same_words}
+use Rattle.conf_model.specs.ConfFaults.{same_words}
 use Rattle.annotation_conf.specs.FileShows.{seen_pair}
 use Rattle.annotation_conf.proofs.faults_lines.have_same_roles.Given as goal
 

@@ -1,5 +1,5 @@
 use Rattle.std.proofs.Common.{◌≡◌, map, take, length}
-use Rattle.annotation_conf.specs.ConfNames.{all_held}
+use Rattle.conf_model.specs.ConfNames.{all_held}
 use Rattle.annotation_conf.specs.FileShows.{seen_alternative}
 use Rattle.annotation_conf.specs.KnownMacros.{kinds_of}
 use Rattle.annotation_conf.proofs.faults_macros.all_held.Given as goal

@@ -1,5 +1,5 @@
 use Rattle.std.proofs.Common.{◌≡◌, take, map}
-use Rattle.annotation_conf.specs.ConfFaults.{names_of}
+use Rattle.conf_model.specs.ConfFaults.{names_of}
 use Rattle.annotation_conf.specs.FileShows.{seen_pair}
 use Rattle.annotation_conf.specs.NamePlaces.{seen_declared}
 use Rattle.annotation_conf.proofs.faults_twice.roles.Given as goal

@@ -1,5 +1,5 @@
 use Rattle.std.proofs.Common.{◌≡◌, take, map, false}
-use Rattle.annotation_conf.specs.ConfFaults.{names_of, stands_twice}
+use Rattle.conf_model.specs.ConfFaults.{names_of, stands_twice}
 use Rattle.annotation_conf.specs.NamePlaces.{seen_declared, FindsPlaces}
 use Rattle.annotation_conf.proofs.faults_twice.stands_twice.Given as goal
 

@@ -1,5 +1,5 @@
 use Rattle.std.proofs.Common.{◌≡◌, take, map}
-use Rattle.annotation_conf.specs.ConfFaults.{names_of, word_of}
+use Rattle.conf_model.specs.ConfFaults.{names_of, word_of}
 use Rattle.annotation_conf.specs.FileShows.{seen_alternative}
 use Rattle.annotation_conf.specs.NamePlaces.{seen_declared}
 use Rattle.annotation_conf.proofs.faults_twice.words.Given as goal

@@ -1,7 +1,7 @@
 use Rattle.std.proofs.Common.{◌≡◌, refl, ap, ◌∙◌, sym, length, arith, map}
 use Rattle.std.specs.Str.Lines.{lines}
 use Rattle.std.proofs.lemmas.List.{length-map}
-use Rattle.annotation_conf.specs.ConfLines.{Before, lines_from}
+use Rattle.conf_model.specs.ConfLines.{Before, lines_from}
 use Rattle.annotation_conf.specs.FileGrows.{grown_by}
 use Rattle.annotation_conf.proofs.FileShown.{lines-few, shows-all}
 use Rattle.annotation_conf.proofs.file.read_file.Goals as goal

@@ -1,7 +1,7 @@
 use Rattle.std.proofs.Common.{◌≡◌, ◌+◌, ◌≤◌, drop, length}
 use Rattle.std.specs.Prelude.{map}
 use Rattle.std.specs.Str.Lines.{lines}
-use Rattle.annotation_conf.specs.ConfLines.{Before, lines_from}
+use Rattle.conf_model.specs.ConfLines.{Before, lines_from}
 use Rattle.annotation_conf.specs.FileShows.{seen_file}
 use Rattle.annotation_conf.specs.FileGrows.{seen_place, nothing_kept, grown_by}
 use Rattle.annotation_conf.proofs.file.read_file.Given as goal

@@ -1,5 +1,5 @@
 use Rattle.std.proofs.Common.{◌≡◌, map, take, filter, not}
-use Rattle.annotation_conf.specs.ConfFaults.{stood_before}
+use Rattle.conf_model.specs.ConfFaults.{stood_before}
 use Rattle.annotation_conf.specs.NamePlaces.{seen_declared}
 use Rattle.annotation_conf.proofs.known_names.first_lines.Given as goal
 

@@ -1,6 +1,6 @@
 use Rattle.std.proofs.Common.{◌≡◌, ◌++◌, drop}
 use Rattle.std.specs.Prelude.{map}
-use Rattle.annotation_conf.specs.ConfPairs.{alternative_of}
+use Rattle.conf_model.specs.ConfPairs.{alternative_of}
 use Rattle.annotation_conf.specs.FileShows.{seen_alternative}
 use Rattle.annotation_conf.proofs.pieces.read_alternatives.Given as goal
 

@@ -1,6 +1,6 @@
 use Rattle.std.proofs.Common.{◌∙◌, ap, []}
 use Rattle.std.specs.Str.{skip_leading_whitespace}
-use Rattle.annotation_conf.specs.ConfPairs.{piece_of}
+use Rattle.conf_model.specs.ConfPairs.{piece_of}
 use Rattle.annotation_conf.specs.FileShows.{seen_pieces}
 use Rattle.annotation_conf.specs.FileGrows.{with_piece}
 use Rattle.annotation_conf.proofs.FilePieces.{with_pieces-step}

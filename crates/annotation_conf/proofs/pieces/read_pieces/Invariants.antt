@@ -1,7 +1,7 @@
 use Rattle.std.proofs.Common.{◌≡◌, drop}
 use Rattle.std.specs.Prelude.{map}
 use Rattle.std.specs.Str.{skip_leading_whitespace}
-use Rattle.annotation_conf.specs.ConfPairs.{piece_of}
+use Rattle.conf_model.specs.ConfPairs.{piece_of}
 use Rattle.annotation_conf.specs.FileShows.{seen_pieces}
 use Rattle.annotation_conf.specs.FileGrows.{with_pieces, nothing_behind}
 use Rattle.annotation_conf.proofs.pieces.read_pieces.Given as goal

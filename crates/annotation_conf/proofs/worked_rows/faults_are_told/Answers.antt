@@ -4,8 +4,8 @@ use Rattle.std.specs.Str.Lossy.{utf8_valid_len}
 use Rattle.std.specs.Fmt.{digits}
 use lib.Utf8.{encode}
 use Rattle.mark_base.specs.Names.{name_fault}
-use Rattle.annotation_conf.specs.ConfNames.{file_of}
-use Rattle.annotation_conf.specs.ConfOf.{conf_of}
+use Rattle.conf_model.specs.ConfNames.{file_of}
+use Rattle.conf_model.specs.ConfOf.{conf_of}
 use Rattle.annotation_conf.proofs.worked_rows.faults_are_told.Goals as goal
 
 pub returns-clause-not_utf8 : goal.returns-clause-not_utf8

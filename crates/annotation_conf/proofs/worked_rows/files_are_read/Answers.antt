@@ -4,9 +4,9 @@ use Rattle.std.specs.Str.Lossy.{utf8_valid_len}
 use Rattle.std.specs.Fmt.{digits}
 use lib.Utf8.{encode}
 use Rattle.mark_base.specs.Names.{name_fault}
-use Rattle.annotation_conf.specs.ConfNames.{file_of}
-use Rattle.annotation_conf.specs.ConfOf.{conf_of}
-use Rattle.annotation_conf.specs.ConfText.{conf_text}
+use Rattle.conf_model.specs.ConfNames.{file_of}
+use Rattle.conf_model.specs.ConfOf.{conf_of}
+use Rattle.conf_model.specs.ConfText.{conf_text}
 use Rattle.annotation_conf.specs.WorkedFiles.{meetings, macros}
 use Rattle.annotation_conf.proofs.worked_rows.files_are_read.Goals as goal
 

@@ -1,7 +1,7 @@
 use Rattle.std.proofs.Common.{List, ℕ, ◌<◌, ◌∙◌, ap, subst, arith, length, Some, All}
 use Rattle.std.proofs.lemmas.List.{take_all}
 use Rattle.layer_model.specs.Annotations.{Annotations}
-use Rattle.layer_core.specs.WellFormed.{IsWellFormed}
+use Rattle.layer_rules.specs.WellFormed.{IsWellFormed}
 use Rattle.unanimous_merge.proofs.RowLemmas.{layers_more, row_there}
 use Rattle.curation_cases.proofs.table.are_well_formed.Goals as goal
 use Rattle.curation_cases.proofs.table.are_well_formed.Goals.{in-Some+in-Ok, in_default}

@@ -1,5 +1,5 @@
 use Rattle.std.proofs.Common.{length, take, All}
-use Rattle.layer_core.specs.WellFormed.{IsWellFormed}
+use Rattle.layer_rules.specs.WellFormed.{IsWellFormed}
 use Rattle.curation_cases.proofs.table.are_well_formed.Given as goal
 
 abbrev pub invariant-loop-i : goal.invariant-loop-i

@@ -2,7 +2,7 @@ use Rattle.std.proofs.Common.{◌≡◌, ◌+◌, suc, filter, length, sym, ◌�
 use Rattle.layer_core.specs.MadeLayers.{falls_by}
 use Rattle.layer_core.specs.Cascade.{falls_next}
 use Rattle.layer_model.specs.LayerIds.{ids_of}
-use Rattle.layer_core.specs.LayerRules.{is_id}
+use Rattle.layer_rules.specs.LayerRules.{is_id}
 use Rattle.layer_core.proofs.FallLemmas.{first_round, one_list, one_more, settled}
 use Rattle.layer_core.proofs.cascade.falling.Goals as goal
 

@@ -1,5 +1,5 @@
 use Rattle.std.proofs.Common.{◌≡◌, ◌++◌, drop, filter}
-use Rattle.layer_core.specs.LayerRules.{is_id}
+use Rattle.layer_rules.specs.LayerRules.{is_id}
 use Rattle.layer_core.proofs.cascade.only.Given as goal
 
 abbrev pub invariant-loop-id : goal.invariant-loop-id

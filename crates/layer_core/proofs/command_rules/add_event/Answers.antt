@@ -2,9 +2,9 @@ use Rattle.std.proofs.Common.{◌≡◌, ◌∷◌, not, map, option_and_then, �
 use Rattle.layer_model.specs.declared.rule.Rule.TheVariants.{NoSuch}
 use Rattle.layer_model.specs.Layers.{has}
 use Rattle.layer_core.specs.CommandRules.{barred, event_named, roles_undeclared, undeclared}
-use Rattle.layer_core.specs.MarkRules.{argument, first_missing, first_unwanted, trigger}
+use Rattle.layer_rules.specs.MarkRules.{argument, first_missing, first_unwanted, trigger}
 use Rattle.layer_core.proofs.OwnLemmas.{six}
-use Rattle.layer_core.proofs.RecordLemmas.{first_split}
+use Rattle.layer_rules.proofs.RecordLemmas.{first_split}
 use Rattle.layer_core.proofs.command_rules.add_event.Goals as goal
 
 pub returns : goal.returns

@@ -1,6 +1,6 @@
 use Rattle.std.proofs.Common.{◌≡◌, drop}
 use Rattle.std.specs.List.{list_any}
-use Rattle.layer_core.specs.LayerRules.{is_id}
+use Rattle.layer_rules.specs.LayerRules.{is_id}
 use Rattle.layer_core.proofs.command_rules.has_id.Given as goal
 
 abbrev pub invariant-loop-other : goal.invariant-loop-other

@@ -1,7 +1,7 @@
 use Rattle.std.proofs.Common.{[], ◌∷◌, not}
 use Rattle.layer_model.specs.Layers.{has}
 use Rattle.layer_model.specs.declared.rule.Rule.TheVariants.{NoSuch}
-use Rattle.layer_core.proofs.RecordLemmas.{first_split}
+use Rattle.layer_rules.proofs.RecordLemmas.{first_split}
 use Rattle.layer_core.proofs.command_rules.missing_two.Goals as goal
 
 pub returns : goal.returns

@@ -1,6 +1,6 @@
 use Rattle.std.proofs.Common.{[], ◌∷◌}
 use Rattle.layer_core.specs.CommandRules.{event_type, is_event_letter, no_such_argument, of_letters, roles_undeclared}
-use Rattle.layer_core.specs.MarkRules.{argument, first_missing, first_unwanted}
+use Rattle.layer_rules.specs.MarkRules.{argument, first_missing, first_unwanted}
 use Rattle.layer_core.proofs.OwnLemmas.{one_more}
 use Rattle.layer_core.proofs.command_rules.remove_arg.Goals as goal
 

@@ -1,5 +1,5 @@
 use Rattle.std.proofs.Common.{[], ◌∷◌, ◌∙◌, ap}
-use Rattle.layer_core.specs.MarkRules.{Wanted, first_unwanted}
+use Rattle.layer_rules.specs.MarkRules.{Wanted, first_unwanted}
 use Rattle.layer_core.proofs.OwnLemmas.{pairs}
 use Rattle.layer_core.proofs.command_rules.unequate.Goals as goal
 

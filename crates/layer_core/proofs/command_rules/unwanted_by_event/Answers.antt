@@ -1,7 +1,7 @@
 use Rattle.std.proofs.Common.{not, map}
 use Rattle.layer_model.specs.declared.rule.Rule.TheVariants.{WrongKind}
-use Rattle.layer_core.specs.MarkRules.{argument, trigger}
-use Rattle.layer_core.proofs.RecordLemmas.{first_split}
+use Rattle.layer_rules.specs.MarkRules.{argument, trigger}
+use Rattle.layer_rules.proofs.RecordLemmas.{first_split}
 use Rattle.layer_core.proofs.command_rules.unwanted_by_event.Goals as goal
 
 pub returns : goal.returns

@@ -1,5 +1,5 @@
 use Rattle.std.proofs.Common.{◌≡◌, drop, map}
-use Rattle.layer_core.specs.MarkRules.{first_unwanted, argument}
+use Rattle.layer_rules.specs.MarkRules.{first_unwanted, argument}
 use Rattle.layer_core.proofs.command_rules.unwanted_targets.Given as goal
 
 abbrev pub invariant-loop-arg : goal.invariant-loop-arg

@@ -1,8 +1,8 @@
 use Rattle.std.proofs.Common.{[], ◌∷◌, not}
 use Rattle.layer_model.specs.declared.rule.Rule.TheVariants.{WrongKind}
 use Rattle.layer_core.specs.CommandRules.{is_event_letter, of_letters}
-use Rattle.layer_core.specs.MarkRules.{argument}
-use Rattle.layer_core.proofs.RecordLemmas.{first_split}
+use Rattle.layer_rules.specs.MarkRules.{argument}
+use Rattle.layer_rules.proofs.RecordLemmas.{first_split}
 use Rattle.layer_core.proofs.command_rules.unwanted_two.Goals as goal
 
 pub returns : goal.returns

@@ -1,7 +1,7 @@
 use Rattle.std.proofs.Common.{◌≡◌, ◌+◌, true, not, sym, ◌∙◌, ap, arith, rules}
 use Rattle.layer_model.specs.Layers.{count, has_number}
 use Rattle.layer_core.proofs.DeskLemmas.{count_low}
-use Rattle.layer_core.proofs.RecordLemmas.{passed_in_range}
+use Rattle.layer_rules.proofs.RecordLemmas.{passed_in_range}
 use Rattle.layer_core.proofs.draft.free_number.Goals as goal
 
 pub overflow_add-end : goal.overflow_add-end

@@ -1,6 +1,6 @@
 use Rattle.std.proofs.Common.{◌≡◌, drop, map}
 use Rattle.std.specs.List.{list_any}
-use Rattle.layer_core.specs.LayerRules.{is_id}
+use Rattle.layer_rules.specs.LayerRules.{is_id}
 use Rattle.layer_core.proofs.first_annotation.leads_to.Given as goal
 
 abbrev pub invariant-loop-arg : goal.invariant-loop-arg

@@ -1,6 +1,6 @@
 use Rattle.std.proofs.Common.{◌≡◌, drop, find}
 use Rattle.layer_model.specs.declared.mark.Mark.TheVariants.{Span}
-use Rattle.layer_core.specs.LayerRules.{refused_overlap}
+use Rattle.layer_rules.specs.LayerRules.{refused_overlap}
 use Rattle.layer_core.specs.Commands.{other_than}
 use Rattle.layer_core.proofs.named_in_refusal.first_overlapping.Given as goal
 

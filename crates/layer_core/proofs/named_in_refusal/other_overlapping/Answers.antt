@@ -2,7 +2,7 @@ use Rattle.std.proofs.Common.{◌≡◌, Some, None, sym, ◌∙◌, ap}
 use Rattle.std.specs.Option.{option_copied, option_map_or}
 use Rattle.layer_model.specs.LayerIds.{ids_of}
 use Rattle.layer_core.specs.MadeLayers.{span_of}
-use Rattle.layer_core.proofs.OverlapLemmas.{good_ascending}
+use Rattle.layer_rules.proofs.OverlapLemmas.{good_ascending}
 use Rattle.layer_core.proofs.PairedLemmas.{no_overlap, span_got}
 use Rattle.layer_core.proofs.named_in_refusal.other_overlapping.Goals as goal
 

@@ -1,6 +1,6 @@
 use Rattle.std.proofs.Common.{sym, ◌∙◌, ap}
 use Rattle.std.specs.Option.{option_copied}
-use Rattle.layer_core.proofs.OverlapLemmas.{good_ascending}
+use Rattle.layer_rules.proofs.OverlapLemmas.{good_ascending}
 use Rattle.layer_core.proofs.named_in_refusal.overlaps.Goals as goal
 
 pub is_refused_overlap-requires-clause-lower_ascending : goal.is_refused_overlap-requires-clause-lower_ascending

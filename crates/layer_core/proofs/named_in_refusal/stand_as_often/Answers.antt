@@ -1,7 +1,7 @@
 use Rattle.std.proofs.Common.{◌≡◌, ◌==◌, Bool, true, false, sym, ◌∙◌, rules}
 use Rattle.mark_base.specs.declared.arguments.Arg.{Arg}
 use Rattle.std.specs.Prelude.{count_by}
-use Rattle.layer_core.specs.LayerRules.{is_arg}
+use Rattle.layer_rules.specs.LayerRules.{is_arg}
 use Rattle.layer_core.proofs.PairedLemmas.{all_on, all_out, step_at}
 use Rattle.layer_core.proofs.named_in_refusal.stand_as_often.Goals as goal
 

@@ -9,8 +9,8 @@ use Rattle.type_hierarchy.specs.TypeFaults.{bad_parent, fault_of, name_twice}
 use Rattle.entry_bytes.specs.Entries.{entry_bytes}
 use Rattle.entry_bytes.specs.Fields.{IsSlug, u32_bytes, u64_bytes}
 use Rattle.entry_bytes.specs.declared.entry.Entry.TheVariants as entry
-use Rattle.annotation_conf.specs.ConfText.{conf_text}
-use Rattle.annotation_conf.specs.Sound as configuration
+use Rattle.conf_model.specs.ConfText.{conf_text}
+use Rattle.conf_model.specs.Sound as configuration
 use Rattle.layer_model.specs.Annotations.{no_marks}
 use Rattle.layer_model.specs.declared.rule.Rule.{Rule}
 use Rattle.project_machine.specs.declared.book_refusal.BookRefusal.TheVariants as no

@@ -1,6 +1,6 @@
 use Rattle.std.proofs.Common.{◌∙◌, ap, map}
 use Rattle.annotation_conf.specs.declared.build_places.Table.TheVariants.{Types, Relations}
-use Rattle.annotation_conf.specs.ConfNames.{File, MacroLine}
+use Rattle.conf_model.specs.ConfNames.{File, MacroLine}
 use Rattle.annotation_conf.specs.BuildPlaces.{places_held}
 use Rattle.annotation_conf.proofs.build_resolver.Resolver.of.Goals as goal
 

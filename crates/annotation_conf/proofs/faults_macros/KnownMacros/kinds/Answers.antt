@@ -1,5 +1,5 @@
 use Rattle.std.proofs.Common.{◌≡◌, ◌∙◌, subst}
-use Rattle.annotation_conf.specs.ConfNames.{File}
+use Rattle.conf_model.specs.ConfNames.{File}
 use Rattle.annotation_conf.specs.KnownMacros.{kinds_of_macros}
 use Rattle.annotation_conf.proofs.FaultMacros.{all_macros, all_are_first}
 use Rattle.annotation_conf.proofs.faults_macros.KnownMacros.kinds.Goals as goal

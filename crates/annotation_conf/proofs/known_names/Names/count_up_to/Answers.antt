@@ -3,7 +3,7 @@ use Rattle.std.proofs.lemmas.Bool.Decides.{nat_tests}
 use Rattle.std.specs.List.Sorted.{IsPartitionPoint}
 use Rattle.std.proofs.lemmas.List.Sorted.{IsPartitionedBy-leb, IsPartitionPoint-from_clause}
 use Rattle.annotation_conf.specs.declared.known_names.DeclaredName.{DeclaredName}
-use Rattle.annotation_conf.specs.ConfFaults.{Declared}
+use Rattle.conf_model.specs.ConfFaults.{Declared}
 use Rattle.annotation_conf.specs.FirstFaults.{IsRising}
 use Rattle.annotation_conf.specs.NamePlaces.{seen_declared}
 use Rattle.annotation_conf.proofs.FaultNames.{count_up_to, rising_goes, rising_of_map}

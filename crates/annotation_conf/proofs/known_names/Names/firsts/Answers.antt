@@ -1,5 +1,5 @@
 use Rattle.std.proofs.Common.{◌≡◌, ◌∙◌, sym, ap, subst, List, map, filter, not}
-use Rattle.annotation_conf.specs.ConfFaults.{Declared, stood_before}
+use Rattle.conf_model.specs.ConfFaults.{Declared, stood_before}
 use Rattle.annotation_conf.specs.NamePlaces.{seen_declared, firsts_among}
 use Rattle.annotation_conf.proofs.FaultKnown.{Rises, firsts_rise}
 use Rattle.annotation_conf.proofs.known_names.Names.firsts.Goals as goal

@@ -1,5 +1,5 @@
 use Rattle.std.proofs.Common.{◌∙◌, ap, is_some}
-use Rattle.annotation_conf.specs.ConfFaults.{is_among, names_of}
+use Rattle.conf_model.specs.ConfFaults.{is_among, names_of}
 use Rattle.annotation_conf.proofs.FaultNames.{found_among}
 use Rattle.annotation_conf.proofs.known_names.Names.has.Goals as goal
 

@@ -1,7 +1,7 @@
 use Rattle.std.proofs.Common.{◌≡◌, ◌∙◌, ◌-◌, ◌<◌, sym, ap, nat_lt, length, arith, map, get_or, List}
 use Rattle.std.proofs.lemmas.List.{get_or-map, length-map}
 use Rattle.annotation_conf.specs.declared.known_names.DeclaredName.{DeclaredName}
-use Rattle.annotation_conf.specs.ConfFaults.{Declared, stood_before}
+use Rattle.conf_model.specs.ConfFaults.{Declared, stood_before}
 use Rattle.annotation_conf.specs.NamePlaces.{seen_declared}
 use Rattle.annotation_conf.proofs.FaultNames.{StandsThere, stood_there, stood_nowhere}
 use Rattle.annotation_conf.proofs.known_names.Names.stood_before.Goals as goal

@@ -1,5 +1,5 @@
 use Rattle.std.proofs.Common.{◌∙◌, sym, ap, subst, map, filter}
-use Rattle.annotation_conf.specs.ConfNames.{file_of}
+use Rattle.conf_model.specs.ConfNames.{file_of}
 use Rattle.annotation_conf.specs.NamePlaces.{firsts_among}
 use Rattle.annotation_conf.specs.KnownFiles.{type_declared, named_declared, macro_declared}
 use Rattle.annotation_conf.proofs.FaultKnown.{Rises, declare_in_order, entities_shown, events_shown, usable_entities_shown, usable_events_shown, relations_shown, attributes_shown, macros_shown, firsts_shown}

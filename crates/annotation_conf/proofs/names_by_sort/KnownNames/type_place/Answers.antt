@@ -1,7 +1,7 @@
 use Rattle.std.proofs.Common.{◌≡◌, ◌∙◌, ◌+◌, Bool, Some, None, sym, ap, length, arith, option_map}
 use Rattle.std.specs.List.{position_from}
 use Rattle.std.proofs.lemmas.List.{length-append, length-map}
-use Rattle.annotation_conf.specs.ConfFaults.{Declared, of_types, names_of}
+use Rattle.conf_model.specs.ConfFaults.{Declared, of_types, names_of}
 use Rattle.annotation_conf.specs.NamePlaces.{place_among, is_called}
 use Rattle.annotation_conf.proofs.BuildOrder.{StandsIn, stands_in}
 use Rattle.annotation_conf.proofs.BuildHeld.{place_in_first, place_in_second, place_later, place_same}

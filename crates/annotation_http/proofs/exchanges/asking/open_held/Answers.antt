@@ -1,6 +1,6 @@
 use Rattle.std.proofs.Common.{◌≡◌, Some, length, rules}
 use Rattle.std.specs.Arc.{arc_value}
-use Rattle.layer_core.specs.WellFormed.{least_flaw}
+use Rattle.layer_rules.specs.WellFormed.{least_flaw}
 use Rattle.annotation_http.proofs.ExchangesProofs.OpenedLemmas.{no_flaw}
 use Rattle.annotation_http.proofs.exchanges.asking.open_held.Goals as goal
 

@@ -1,0 +1,11 @@
+pub mod ConfFaultNames
+pub mod ConfFaults
+pub mod ConfLines
+pub mod ConfNames
+pub mod ConfOf
+pub mod ConfPairs
+pub mod ConfText
+pub mod Configurations
+pub mod Kept
+pub mod Lookups
+pub mod Sound

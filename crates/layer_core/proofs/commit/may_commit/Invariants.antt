@@ -1,7 +1,0 @@
-use Rattle.std.proofs.Common.{◌≡◌}
-use Rattle.layer_core.specs.WellFormed.{commit_fault}
-use Rattle.layer_core.proofs.CommitLemmas.{first_few}
-use Rattle.layer_core.proofs.commit.may_commit.Given as goal
-
-abbrev pub invariant-loop-number : goal.invariant-loop-number
-invariant-loop-number l = first_few l.conf l.number-iterator ≡ commit_fault l.conf l.layer

@@ -1,5 +1,0 @@
-use Rattle.layer_core.proofs.ChainLemmas.{chains_begin}
-use Rattle.layer_core.proofs.event_chains.deep_events.Goals as goal
-
-pub deeper-requires : goal.deeper-requires
-deeper-requires c = chains_begin c.args.layer.now c.events.result.now.entries c.events.ensures

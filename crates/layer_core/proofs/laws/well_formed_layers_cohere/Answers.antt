@@ -1,5 +1,0 @@
-use Rattle.layer_core.proofs.CoherenceLemmas.{coheres}
-use Rattle.layer_core.proofs.laws.well_formed_layers_cohere.Goals as goal
-
-pub returns : goal.returns
-returns c = coheres

@@ -1,6 +1,0 @@
-use Rattle.std.proofs.Common.{◌≡◌, drop, map}
-use Rattle.layer_core.specs.MarkRules.{first_unwanted, member}
-use Rattle.layer_core.proofs.mark_rules.unwanted_members.Given as goal
-
-abbrev pub invariant-loop-id : goal.invariant-loop-id
-invariant-loop-id l = first_unwanted (map (member l.conf l.layer) (drop l.id-index l.ids)) ≡ first_unwanted (map (member l.conf l.layer) l.ids)

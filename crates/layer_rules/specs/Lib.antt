@@ -1,0 +1,12 @@
+pub mod EventChains
+pub mod CheckFaults
+pub mod EventKeys
+pub mod Repeats
+pub mod LayerRules
+pub mod FlawPlaces
+pub mod NamedByRule
+pub mod MarkRules
+pub mod BadTexts
+pub mod Targets
+pub mod LowestFlaw
+pub mod WellFormed

@@ -1,0 +1,91 @@
+//! The rules that look at one class and at what it names.
+ghost use Rattle.std.specs.Prelude.{◌≡◌, ◌≤◌, ◌||◌, not, length};
+ghost use Rattle.std.specs.List.{list_any};
+ghost use Rattle.layer_rules.specs.FlawPlaces.{first_place, places};
+ghost use Rattle.layer_rules.specs.Targets.{type_of};
+ghost use Rattle.layer_rules.specs.LayerRules.{are_bad_members, equiv_members, is_id, may_be_equal};
+ghost use Rattle.layer_rules.specs.WellFormed.{at_equiv_members};
+ghost use Rattle.layer_rules.specs.LowestFlaw.{class_rule, first_from};
+
+use crate::mark_rules::{barred_class, missing_ids, unknown_relation, unwanted_members, where_so};
+use crate::targets::{is_id, type_of};
+use conf_model::Conf;
+use layer_model::{Class, Flaw, FlawPlace, Layer, Rule};
+use mark_base::{AnnId, RelId};
+
+/// The first of the rules on one class that it breaks.
+pub(crate) fn class_rule(conf: &Conf, layer: &Layer, class: &Class) -> Option<Rule>
+    ensures { result ≡ class_rule conf.now layer.now class.now }
+{
+    unknown_relation(conf, class.kind)
+        .or(barred_class(conf, class.kind))
+        .or(missing_ids(layer, class.members.items()))
+        .or(unwanted_members(conf, layer, class.members.items()))
+}
+
+/// Whether some line of a relation type admits the types of two annotations in either order.
+fn may_be_equal(conf: &Conf, layer: &Layer, kind: RelId, a: AnnId, b: AnnId) -> bool
+    ensures { result ≡ may_be_equal conf.now kind.n (type_of layer.now a) (type_of layer.now b) }
+{
+    match (type_of(layer, a), type_of(layer, b)) {
+        (Some(a), Some(b)) => conf.relation_admits(kind, a, b) || conf.relation_admits(kind, b, a),
+        _ => true,
+    }
+}
+
+/// Whether an ID stands among others, or may not be in one class with one of them.
+fn clashes(conf: &Conf, layer: &Layer, kind: RelId, id: AnnId, others: &[AnnId]) -> bool
+    ensures { result ≡ list_any (λ other. is_id id other || not (may_be_equal conf.now kind.n (type_of layer.now id) (type_of layer.now other))) others.now }
+{
+    for other in others {
+        if is_id(id, *other) || !may_be_equal(conf, layer, kind, id, *other) {
+            return true;
+        }
+    }
+    false
+}
+
+/// Whether some ID stands twice, or two may not be in one class.
+pub fn are_bad_members(conf: &Conf, layer: &Layer, kind: RelId, ids: &[AnnId]) -> bool
+    ensures { result ≡ are_bad_members conf.now layer.now kind.n ids.now }
+{
+    let mut left = ids;
+    while let Some((id, others)) = left.split_first() {
+        if clashes(conf, layer, kind, *id, others) {
+            return true;
+        }
+        left = others;
+    }
+    false
+}
+
+/// The rule on members that do not make a class. Cost: the square of the number of members.
+fn equiv_members(conf: &Conf, layer: &Layer, class: &Class) -> Option<Rule>
+    ensures { result ≡ equiv_members conf.now layer.now class.now }
+{
+    let ids = class.members.items();
+    let bad = ids.len() < 2 || are_bad_members(conf, layer, class.kind, ids);
+    where_so(bad, Rule::EquivMembers)
+}
+
+/// The flaw of the first class whose members do not make one.
+pub(crate) fn member_flaw(conf: &Conf, layer: &Layer) -> Option<Flaw>
+    ensures { result ≡ first_place (at_equiv_members conf.now layer.now) (places layer.now) }
+{
+    layer.keeps();
+    first_bad(conf, layer, layer.classes())
+}
+
+/// The same among classes.
+fn first_bad(conf: &Conf, layer: &Layer, classes: &[Class]) -> Option<Flaw>
+    requires { length classes.now ≤ 4294967295 }
+    ensures { result ≡ first_from 0 (λ _. equiv_members conf.now layer.now) classes.now }
+{
+    for (index, class) in classes.iter().enumerate() {
+        if let Some(rule) = equiv_members(conf, layer, class) {
+            let at = FlawPlace::Class(index as u32);
+            return Some(Flaw { rule, at });
+        }
+    }
+    None
+}
