@@ -22,10 +22,19 @@ expect() {
 }
 
 expect 'annotators 3 curators 1' found news.book "$here/news.conf" "$here/roster.csv"
-expect 'tokens 5' add news.book cur rome "$here/news.txt"
+for text in lima,4 oslo,5 rome,5; do
+    expect "tokens ${text#*,}" add news.book cur "${text%,*}" "$here/texts/${text%,*}.txt"
+done
 "$annotate" session news.book <"$here/session.http" >/dev/null
 expect $'T1\tPerson 0 3\tAnn\nT2\tPerson 8 11\tBob' export news.book ann rome
-expect 'revision 1' import news.book bob rome "$here/news.ann"
+
+# A folder of .ann files, one of which is faulty: it is named with its line and the rule, and the others are there.
+for file in "$here"/marks/*.ann; do
+    name="$(basename "$file" .ann)"
+    "$annotate" import news.book bob "$name" "$file" 2>said || echo "$name: $(cat said)"
+done >imported
+printf '%s\n' 'lima: ann line 2: Broken UnknownType' 'revision 1' 'revision 1' | diff - imported
+cat imported
 expect 'first,second,units,agreed,top,bottom,kappa
 ann,bob,5,3,8,18,0.4444
 ann,cid,0,0,0,0,undefined
@@ -45,9 +54,29 @@ bob,cid,events,0,0,0,0,0,undefined
 bob,cid,relations,0,0,0,0,0,undefined' scores news.book
 expect $'Ann\tB-Person\nmet\tO\nBob\tB-Person\nin\tO\nRome\tO' columns-out news.book ann rome
 "$annotate" session news.book <"$here/curate.http" >/dev/null
-expect $'T1\tPerson 0 3\tAnn\nT2\tPerson 8 11\tBob\nT3\tLocation 15 19\tRome' curated news.book 1
+expect $'T1\tPerson 0 3\tAnn\nT2\tPerson 8 11\tBob\nT3\tLocation 15 19\tRome\nR1\tLocated Arg1:T1 Arg2:T3' curated news.book 1
+
+# A session is killed while it commits. Behind that the project opens, and has the change where it was answered.
+there=
+for delay in 0 0.002 0.004 0.008 0.016 0.032 0.064; do
+    "$annotate" session news.book < <(cat "$here/commit.http"; exec sleep 5) >answers &
+    session=$!
+    sleep "$delay"
+    kill -KILL "$session" 2>/dev/null || true
+    wait "$session" 2>/dev/null || true
+    found="$("$annotate" export news.book ann oslo 2>refused || cat refused)"
+    case "$found" in
+        $'T1\tPerson 0 3\tEva') there=yes ;;
+        'refused: NoLayer') [ -z "$there" ] ;;
+        *) printf 'walk: behind a kill, export printed\n%s\n' "$found" >&2; exit 1 ;;
+    esac
+    if grep -q '^{"revision":' answers; then
+        [ -n "$there" ]
+    fi
+done
+echo "seven sessions were killed"
 [[ "$("$annotate" compact news.book news.new)" =~ ^place\ [0-9]+$ ]]
-expect $'T1\tPerson 0 3\tAnn\nT2\tPerson 8 11\tBob\nT3\tLocation 15 19\tRome' curated news.new 1
+expect $'T1\tPerson 0 3\tAnn\nT2\tPerson 8 11\tBob\nT3\tLocation 15 19\tRome\nR1\tLocated Arg1:T1 Arg2:T3' curated news.new 1
 if "$annotate" add news.book cur rome "$here/news.txt" 2>refused; then
     echo "walk: a document was added twice" >&2
     exit 1
