@@ -21,14 +21,23 @@ fn name_read(alloc: Global, word: &str) -> Result<Option<Name>, Memory>
     }
 }
 
-/// The type of a name.
-fn type_read(alloc: Global, conf: &Conf, word: &str) -> Result<Option<TypeId>, Memory>
-    ensures { IfOk result (λ id. id ≡ type_read conf.now word.now) }
+/// The type of a name. Cost: the number of types, of which there are at most 256; no name is made.
+fn type_read(conf: &Conf, word: &str) -> Option<TypeId>
+    ensures { result ≡ type_read conf.now word.now }
 {
-    match name_read(alloc, word)? {
-        Some(name) => Ok(conf.types().find(&name)),
-        None => Ok(None),
+    let types = conf.types();
+    for n in 0..types.count() {
+        let id = TypeId { n };
+        match types.row(id) {
+            Some(row) => {
+                if row.name.text() == word {
+                    return Some(id);
+                }
+            }
+            None => return None,
+        }
     }
+    None
 }
 
 /// A type, where it is an event type.
@@ -39,13 +48,13 @@ fn where_event(conf: &Conf, id: TypeId) -> Option<TypeId>
     if row.event { Some(id) } else { None }
 }
 
-/// The event type of a name.
-fn event_read(alloc: Global, conf: &Conf, word: &str) -> Result<Option<TypeId>, Memory>
-    ensures { IfOk result (λ id. id ≡ event_read conf.now word.now) }
+/// The event type of a name. Cost: as `type_read`.
+fn event_read(conf: &Conf, word: &str) -> Option<TypeId>
+    ensures { result ≡ event_read conf.now word.now }
 {
-    match type_read(alloc, conf, word)? {
-        Some(id) => Ok(where_event(conf, id)),
-        None => Ok(None),
+    match type_read(conf, word) {
+        Some(id) => where_event(conf, id),
+        None => None,
     }
 }
 
@@ -119,8 +128,8 @@ pub(crate) fn line_types(alloc: Global, conf: &Conf, form: &Form) -> Result<Line
 {
     match form {
         Form::Bad | Form::Normal { .. } | Form::Note { .. } => Ok(of_mark(None)),
-        Form::Text { kind, .. } => Ok(of_mark(type_read(alloc, conf, kind)?)),
-        Form::Event { kind, .. } => Ok(of_mark(event_read(alloc, conf, kind)?)),
+        Form::Text { kind, .. } => Ok(of_mark(type_read(conf, kind))),
+        Form::Event { kind, .. } => Ok(of_mark(event_read(conf, kind))),
         Form::Relation { kind, .. } => Ok(of_relation(relation_read(alloc, conf, kind)?)),
         Form::Attribute { kind, .. } => Ok(of_attribute(attribute_read(alloc, conf, kind)?)),
         Form::Class { kind, .. } => Ok(of_relation(relation_read(alloc, conf, kind)?)),

@@ -61,8 +61,8 @@ fn gather_heads(alloc: Global, lines: &[Line]) -> Result<BTreeMap<u64, u32>, Mem
     let mut heads = BTreeMap::new(alloc);
     for line in lines {
         if let Some(id) = head_of(line) {
-            if !heads.contains_key(&rank(id)) {
-                heads.insert(rank(id), line.number)?;
+            if let Some(first) = heads.insert(rank(id), line.number)? {
+                heads.insert(rank(id), first)?;
             }
         }
     }

@@ -4,11 +4,11 @@ ghost use Rattle.ann_reader.specs.AnnFaults.{with_read, with_said, with_form};
 ghost use Rattle.ann_reader.specs.LineTypes.{HasTypes};
 ghost use Rattle.ann_reader.specs.FormShows.{NamesSome, seen_form, seen_said};
 ghost use Rattle.layer_model.specs.Layers.{is_of_kind};
+ghost use Rattle.ann_reader.specs.References.{own_id};
 
 use crate::declared_names::LineTypes;
 use crate::line_form::Form;
 use crate::line_meaning::{Said, mark_of, said_of};
-use crate::references::own_id;
 use conf_model::Conf;
 use layer_model::{Layer, Mark};
 use mark_base::{AnnId, Kind, Memory};
@@ -53,21 +53,23 @@ fn join_said(layer: &mut Layer, said: Option<Said>) -> Result<(), Memory>
     }
 }
 
-/// Adds what a line says.
+/// Adds what a line says, whose own ID is read already. Its fragments are not copied.
 pub(crate) fn add_line(
     alloc: Global,
     conf: &Conf,
     layer: &mut Layer,
-    form: &Form,
+    form: Form,
+    own: Option<AnnId>,
     types: &LineTypes,
 ) -> Result<(), Memory>
-    requires typed { HasTypes conf.now (seen_form form.now) types.now }
+    requires own { own ≡ own_id (seen_form form) }
+    requires typed { HasTypes conf.now (seen_form form) types.now }
     requires few { length layer.old.classes < 4294967295 }
-    requires some { NamesSome (seen_form form.now) }
-    ensures { OnOk result (layer.new ≡ with_form conf.now layer.old (seen_form form.now)) }
+    requires some { NamesSome (seen_form form) }
+    ensures { OnOk result (layer.new ≡ with_form conf.now layer.old (seen_form form)) }
 {
+    let said = said_of(alloc, conf, &form, types)?;
     let mark = mark_of(alloc, conf, form, types)?;
-    put_read(layer, own_id(form), mark)?;
-    let said = said_of(alloc, conf, form, types)?;
+    put_read(layer, own, mark)?;
     join_said(layer, said)
 }

@@ -9,7 +9,7 @@ ghost use Rattle.layer_rules.specs.MarkRules.{is_barred_type};
 ghost use Rattle.std.specs.Option.{option_map_or};
 ghost use Rattle.std.specs.Prelude.{false};
 ghost use Rattle.ann_reader.specs.Roles.{role_read};
-ghost use Rattle.ann_reader.specs.References.{references};
+ghost use Rattle.ann_reader.specs.References.{own_id, references};
 ghost use Rattle.ann_reader.specs.LineForms.{form_of};
 ghost use Rattle.ann_reader.specs.LineFaults.{is_formless, is_nameless, is_twice, has_unknown_type, has_barred_type, first_absent, first_unfit, has_unknown_role, has_unknown_value, has_bad_text, one_too_many, naming_rule, value_rule, line_rule, is_bad_line, has_bad_id, line_fault};
 ghost use Rattle.ann_reader.specs.LineShows.{seen_line};
@@ -23,7 +23,7 @@ use crate::line::Line;
 use crate::line_form::{Form, Pair};
 use crate::line_meaning::ends_of;
 use crate::references::{
-    Reference, is_own_misspelt, may_stand, own_id, references, some_misspelt, some_without_letter,
+    Reference, is_own_misspelt, may_stand, references, some_misspelt, some_without_letter,
 };
 use crate::roles::role_read;
 use crate::word::first_byte;
@@ -261,11 +261,11 @@ fn value_rule(
 }
 
 /// Whether an earlier line has the ID of a line.
-fn is_twice(known: &KnownLines, line: &Line, form: &Form) -> bool
-    requires { seen_form form.now ≡ form_of line.now.text.now }
+fn is_twice(known: &KnownLines, line: &Line, own: Option<AnnId>) -> bool
+    requires { own ≡ own_id (form_of line.now.text.now) }
     ensures { result ≡ is_twice known.now (seen_line line.now) }
 {
-    match own_id(form) {
+    match own {
         Some(id) => match known.head(id) {
             Some(first) => first < line.number,
             None => false,
@@ -301,11 +301,12 @@ fn is_bad_line(form: &Form, named: &[Reference]) -> bool
 }
 
 /// Whether an ID of a line is misspelt.
-fn has_bad_id(form: &Form, named: &[Reference]) -> bool
-    requires { map seen_reference named.now ≡ references (seen_form form.now) }
+fn has_bad_id(form: &Form, own: Option<AnnId>, named: &[Reference]) -> bool
+    requires own { own ≡ own_id (seen_form form.now) }
+    requires named { map seen_reference named.now ≡ references (seen_form form.now) }
     ensures { result ≡ has_bad_id (seen_form form.now) }
 {
-    is_own_misspelt(form) || some_misspelt(named)
+    is_own_misspelt(form, own) || some_misspelt(named)
 }
 
 /// The first rule that a line breaks.
@@ -329,8 +330,8 @@ fn line_rule(
     }
 }
 
-/// The first fault of a line among all, where so many before it are counted together with it. Cost: the line,
-/// and the number of its IDs times the logarithm of the number of lines.
+/// The first fault of a line among all, where so many before it are counted together with it, and its own ID is read
+/// already. Cost: the line, and the number of its IDs times the logarithm of the number of lines.
 pub(crate) fn line_fault(
     alloc: Global,
     conf: &Conf,
@@ -338,9 +339,11 @@ pub(crate) fn line_fault(
     before: u32,
     line: &Line,
     form: &Form,
+    own: Option<AnnId>,
     types: &LineTypes,
 ) -> Result<Option<AnnWhat>, Memory>
     requires formed { seen_form form.now ≡ form_of line.now.text.now }
+    requires own { own ≡ own_id (seen_form form.now) }
     requires typed { HasTypes conf.now (seen_form form.now) types.now }
     ensures { IfOk result (λ what. what ≡ line_fault conf.now known.now before (seen_line line.now)) }
 {
@@ -348,10 +351,10 @@ pub(crate) fn line_fault(
     if is_bad_line(form, &named) {
         return Ok(Some(AnnWhat::BadLine));
     }
-    if has_bad_id(form, &named) {
+    if has_bad_id(form, own, &named) {
         return Ok(Some(AnnWhat::BadId));
     }
-    if is_twice(known, line, form) {
+    if is_twice(known, line, own) {
         return Ok(Some(AnnWhat::IdTwice));
     }
     match line_rule(alloc, conf, known, before, line, form, types, &named)? {

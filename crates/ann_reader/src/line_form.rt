@@ -1,13 +1,13 @@
 //! The forms of lines: the parts of a line as they are spelt, by its first letter.
-ghost use Rattle.std.specs.Prelude.{◌≡◌, ◌==◌, ◌||◌, ◌&&◌, not, IfOk, if◌then◌else◌};
-ghost use Rattle.ann_reader.specs.Lines.{has_tab, first_field, behind_tab, without_return};
-ghost use Rattle.ann_reader.specs.LineForms.{BadForm, two_form, three_form, of_two, of_three, begins_two, begins_three, form_by, form_of};
+ghost use Rattle.std.specs.Prelude.{◌≡◌, IfOk};
+ghost use Rattle.ann_reader.specs.Lines.{has_tab};
+ghost use Rattle.ann_reader.specs.LineForms.{two_form, three_form, of_two, of_three, begins_two, begins_three, form_by, form_of};
 ghost use Rattle.ann_reader.specs.FormShows.{seen_form};
 
 use crate::attribute_line::attribute_form;
 use crate::class_line::class_form;
 use crate::event_line::event_form;
-use crate::line::{before, behind, has_byte, without_end, without_return};
+use crate::line::{before, cut, has_byte, without_end, without_return};
 use crate::normalization_line::normal_form;
 use crate::note_line::note_form;
 use crate::relation_line::relation_form;
@@ -94,29 +94,20 @@ fn two_form<'a>(
     }
 }
 
-/// Whether a text has one TAB.
-fn has_one_tab(text: &str) -> bool
-    ensures { result ≡ (has_tab text.now && not (has_tab (behind_tab text.now))) }
-{
-    has_tab(text) && !has_tab(behind(text, b'\t'))
-}
-
-/// The form of a line of two fields, by its first field and what is left of the line once its end is dropped.
-fn two_by<'a>(alloc: Global, byte: u8, first: &'a str, short: &'a str) -> Result<Form<'a>, Memory>
-    ensures { IfOk result (λ form. seen_form form ≡ (if has_tab short.now && not (has_tab (behind_tab short.now)) then two_form byte first.now (behind_tab short.now) else BadForm)) }
-{
-    if has_one_tab(short) {
-        two_form(alloc, byte, first, behind(short, b'\t'))
-    } else {
-        Ok(Form::Bad)
-    }
-}
-
-/// The form of a line of two fields.
+/// The form of a line of two fields. Spaces, TABs and one carriage return at its end are dropped.
 fn of_two<'a>(alloc: Global, byte: u8, line: &'a str) -> Result<Form<'a>, Memory>
     ensures { IfOk result (λ form. seen_form form ≡ of_two byte line.now) }
 {
-    two_by(alloc, byte, before(line, b'\t'), without_end(line))
+    match cut(without_end(line), b'\t') {
+        Some((_, second)) => {
+            if has_tab(second) {
+                Ok(Form::Bad)
+            } else {
+                two_form(alloc, byte, before(line, b'\t'), second)
+            }
+        }
+        None => Ok(Form::Bad),
+    }
 }
 
 /// The form of three fields of a line that begins with this byte.
@@ -136,32 +127,22 @@ fn three_form<'a>(
     }
 }
 
-/// The form of a line of three fields, by its first field and what stands behind it.
-fn three_by<'a>(alloc: Global, byte: u8, first: &'a str, rest: &'a str) -> Result<Form<'a>, Memory>
-    ensures { IfOk result (λ form. seen_form form ≡ three_form byte first.now (first_field rest.now) (without_return (behind_tab rest.now))) }
-{
-    let second = before(rest, b'\t');
-    let text = behind(rest, b'\t');
-    three_form(alloc, byte, first, second, without_return(text))
-}
-
-/// Whether a line that begins with this byte has its three fields, or on an N line two.
-fn has_fields(byte: u8, line: &str) -> bool
-    ensures { result ≡ (has_tab line.now && (byte == 78 || has_tab (behind_tab line.now))) }
-{
-    has_tab(line) && (byte == b'N' || has_tab(behind(line, b'\t')))
-}
-
 /// The form of a line of three fields, of which the third may be absent on an N line.
 fn of_three<'a>(alloc: Global, byte: u8, line: &'a str) -> Result<Form<'a>, Memory>
     ensures { IfOk result (λ form. seen_form form ≡ of_three byte line.now) }
 {
-    if has_fields(byte, line) {
-        let first = before(line, b'\t');
-        let rest = behind(line, b'\t');
-        three_by(alloc, byte, first, rest)
-    } else {
-        Ok(Form::Bad)
+    match cut(line, b'\t') {
+        Some((first, rest)) => match cut(rest, b'\t') {
+            Some((second, text)) => three_form(alloc, byte, first, second, without_return(text)),
+            None => {
+                if byte == b'N' {
+                    three_form(alloc, byte, first, rest, "")
+                } else {
+                    Ok(Form::Bad)
+                }
+            }
+        },
+        None => Ok(Form::Bad),
     }
 }
 

@@ -83,15 +83,15 @@ pub(crate) fn ends_of<'a>(conf: &Conf, kind: RelId, a: &Pair<'a>, b: &Pair<'a>) 
 }
 
 /// The span of a T line.
-fn span_of(alloc: Global, kind: Option<TypeId>, frags: &[Frag]) -> Result<Option<Mark>, Memory>
-    ensures { IfOk result (λ mark. mark ≡ span_by kind frags.now) }
+fn span_of(kind: Option<TypeId>, frags: Vec<Frag>) -> Option<Mark>
+    ensures { result ≡ span_by kind frags.items }
 {
     match kind {
         Some(kind) => {
-            let frags = FragList::of(alloc, frags)?;
-            Ok(Some(Mark::Span(Span { kind, frags })))
+            let frags = FragList::from_vec(frags);
+            Some(Mark::Span(Span { kind, frags }))
         }
-        None => Ok(None),
+        None => None,
     }
 }
 
@@ -232,24 +232,25 @@ fn note_of(alloc: Global, kind: &str, target: &str, text: &str) -> Result<Option
     }
 }
 
-/// The annotation that a line spells, where each of its parts can be read. Cost: the line.
+/// The annotation that a line spells, where each of its parts can be read. Its fragments are taken as they are. Cost:
+/// the line.
 #[tactic(auto, unfolding(crate::specs::LineMeanings::mark_of))]
 pub(crate) fn mark_of(
     alloc: Global,
     conf: &Conf,
-    form: &Form,
+    form: Form,
     types: &LineTypes,
 ) -> Result<Option<Mark>, Memory>
-    requires { HasTypes conf.now (seen_form form.now) types.now }
-    ensures { IfOk result (λ mark. mark ≡ mark_of conf.now (seen_form form.now)) }
+    requires { HasTypes conf.now (seen_form form) types.now }
+    ensures { IfOk result (λ mark. mark ≡ mark_of conf.now (seen_form form)) }
 {
     match form {
         Form::Bad | Form::Class { .. } => Ok(None),
-        Form::Text { frags, .. } => span_of(alloc, types.marked, frags),
-        Form::Event { trigger, pairs, .. } => event_of(alloc, conf, types.marked, trigger, pairs),
-        Form::Relation { a, b, .. } => Ok(relation_of(conf, types.related, a, b)),
+        Form::Text { frags, .. } => Ok(span_of(types.marked, frags)),
+        Form::Event { trigger, pairs, .. } => event_of(alloc, conf, types.marked, trigger, &pairs),
+        Form::Relation { a, b, .. } => Ok(relation_of(conf, types.related, &a, &b)),
         Form::Attribute { target, value, .. } => {
-            attribute_of(alloc, conf, types.attributed, target, *value)
+            attribute_of(alloc, conf, types.attributed, target, value)
         }
         Form::Normal {
             target,

@@ -22,6 +22,7 @@ use crate::line_counts::{LineCounts, count_line, count_of};
 use crate::line_fault::line_fault;
 use crate::line_form::{Form, form_of};
 use crate::line_meaning::{Said, said_of};
+use crate::references::own_id;
 use crate::texts::{plain_text, text_differs};
 use crate::word::first_byte;
 use crate::{AnnFault, AnnWhat};
@@ -215,16 +216,17 @@ fn spelt_by(alloc: Global, doc: &Doc, conf: &Conf, known: &KnownLines) -> Result
         let byte = first_byte(line.text.as_bytes());
         let form = form_of(alloc, line.text)?;
         let types = line_types(alloc, conf, &form)?;
+        let own = own_id(&form);
         let before = count_of(&counts, byte);
-        if let Some(what) = line_fault(alloc, conf, known, before, line, &form, &types)? {
+        if let Some(what) = line_fault(alloc, conf, known, before, line, &form, own, &types)? {
             return Err(AnnFault::At {
                 line: line.number,
                 what,
             });
         }
         count_line(&mut counts, byte)?;
-        add_line(alloc, conf, &mut layer, &form, &types)?;
         text_fault = text_fault_or(alloc, doc, plain, text_fault, line, &form)?;
+        add_line(alloc, conf, &mut layer, form, own, &types)?;
     }
     Ok(Spelt { layer, text_fault })
 }

@@ -119,14 +119,12 @@ pub(crate) fn own_id(form: &Form) -> Option<AnnId>
     AnnId::read(own_word(form)?.as_bytes())
 }
 
-/// Whether a line has an ID of its own that is misspelt.
-pub(crate) fn is_own_misspelt(form: &Form) -> bool
+/// Whether a line has an ID of its own that is misspelt, where this is the ID as it was read.
+pub(crate) fn is_own_misspelt(form: &Form, own: Option<AnnId>) -> bool
+    requires { own ≡ own_id (seen_form form.now) }
     ensures { result ≡ is_own_misspelt (seen_form form.now) }
 {
-    match own_word(form) {
-        Some(word) => AnnId::read(word.as_bytes()).is_none(),
-        None => false,
-    }
+    own.is_none() && own_word(form).is_some()
 }
 
 /// Whether a word begins with none of the letters.
