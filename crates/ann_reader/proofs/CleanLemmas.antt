@@ -14,7 +14,7 @@ use Rattle.layer_model.specs.declared.mark.Mark.TheVariants as sort
 use Rattle.layer_model.specs.declared.rule.Rule.{Rule}
 use Rattle.layer_model.specs.declared.rule.Rule.TheVariants.{UnknownType, NotForUse, UnknownRole, UnknownValue}
 use Rattle.layer_model.specs.Coherent.{is_span_letter}
-use Rattle.layer_core.specs.CommandRules.{Valued, Undeclared, Declared, value_refused}
+use Rattle.layer_rules.specs.AttributeValues.{Valued, Undeclared, Declared, value_refused}
 use Rattle.layer_rules.specs.MarkRules.{where_so, Wanted, first_unwanted}
 use Rattle.ann_reader.specs.declared.ann_fault.AnnWhat.TheVariants.{BadLine, BadId, IdTwice, Broken}
 use Rattle.ann_reader.specs.Roles.{role_read}

@@ -23,7 +23,7 @@ use Rattle.mark_base.specs.declared.table_places.TypeId.{TypeId}
 use Rattle.mark_base.specs.declared.arguments.Arg.{Arg}
 use Rattle.mark_base.specs.Names.{name_fault}
 use Rattle.layer_model.specs.declared.mark.Mark.TheVariants as marked
-use Rattle.layer_core.specs.CommandRules.{Valued, Undeclared, Declared}
+use Rattle.layer_rules.specs.AttributeValues.{Valued, Undeclared, Declared}
 use Rattle.ann_reader.specs.NamesRead.{type_read, event_read, relation_read, attribute_read, value_read}
 use Rattle.ann_reader.specs.LineMeanings.{args_of, ends_of, event_by, relation_by as relation_said, attribute_by as attribute_said, mark_of}
 

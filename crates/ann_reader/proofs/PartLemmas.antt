@@ -10,7 +10,7 @@ use Rattle.mark_base.specs.Names.{name_fault}
 use Rattle.conf_model.specs.Configurations.{Configuration}
 use Rattle.layer_model.specs.declared.mark.Mark.{Mark}
 use Rattle.layer_model.specs.declared.mark.Mark.TheVariants as marked
-use Rattle.layer_core.specs.CommandRules.{Valued, Undeclared, Declared}
+use Rattle.layer_rules.specs.AttributeValues.{Valued, Undeclared, Declared}
 use Rattle.ann_reader.specs.NamesRead.{type_read, event_read, relation_read, attribute_read, value_read}
 use Rattle.mark_base.specs.ReadIds.{id_read}
 use Rattle.ann_reader.specs.Words.{all_of}

@@ -21,7 +21,7 @@ use Rattle.layer_model.specs.declared.rule.Rule.TheVariants.{NotForUse, UnknownV
 use Rattle.layer_model.specs.Annotations.{Annotations}
 use Rattle.layer_model.specs.Layers.{mark_at}
 use Rattle.layer_model.specs.Coherent.{IsCoherent}
-use Rattle.layer_core.specs.CommandRules.{value_refused}
+use Rattle.layer_rules.specs.AttributeValues.{value_refused}
 use Rattle.layer_rules.specs.FlawPlaces.{by_place}
 use Rattle.layer_rules.specs.MarkRules.{is_barred_type, not_for_use, class_not_for_use, is_bad_value, unknown_value}
 use Rattle.layer_rules.specs.LayerRules.{bad_text}

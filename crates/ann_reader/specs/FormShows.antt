@@ -6,7 +6,7 @@ use Rattle.ann_reader.specs.declared.line_form.Form.TheVariants as value
 use Rattle.ann_reader.specs.declared.references.Reference.{Reference as ReferenceValue}
 use Rattle.ann_reader.specs.declared.declared_names.Value.{Value}
 use Rattle.ann_reader.specs.declared.declared_names.Value.TheVariants as given
-use Rattle.layer_core.specs.CommandRules.{Valued, Undeclared, Declared}
+use Rattle.layer_rules.specs.AttributeValues.{Valued, Undeclared, Declared}
 use Rattle.ann_reader.specs.LineForms.{Pair, Form, BadForm, TextForm, EventForm, RelationForm, AttributeForm, ClassForm, NormalForm, NoteForm}
 use Rattle.ann_reader.specs.References.{Reference}
 use Rattle.ann_reader.specs.declared.line_meaning.Ends.{Ends as EndsValue}

@@ -8,7 +8,7 @@ use Rattle.conf_model.specs.Configurations.{Configuration}
 use Rattle.conf_model.specs.Lookups.{is_equivalence, values_of}
 use Rattle.layer_model.specs.declared.rule.Rule.{Rule}
 use Rattle.layer_model.specs.declared.rule.Rule.TheVariants.{UnknownType, NotForUse, NoSuch, UnknownRole, UnknownValue, BadText, LayerFull}
-use Rattle.layer_core.specs.CommandRules.{value_refused}
+use Rattle.layer_rules.specs.AttributeValues.{value_refused}
 use Rattle.layer_rules.specs.LayerRules.{counted_letter, is_id}
 use Rattle.layer_rules.specs.MarkRules.{where_so, is_barred_type, Wanted, first_unwanted}
 use Rattle.layer_rules.specs.BadTexts.{is_bad_text, is_bad_store, is_bad_entry}

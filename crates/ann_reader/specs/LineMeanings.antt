@@ -10,7 +10,7 @@ use Rattle.conf_model.specs.Configurations.{Configuration}
 use Rattle.conf_model.specs.Lookups.{relation_role}
 use Rattle.layer_model.specs.declared.mark.Mark.{Mark}
 use Rattle.layer_model.specs.declared.mark.Mark.TheVariants.{Span, Event, Relation, Attribute, Normal, Note}
-use Rattle.layer_core.specs.CommandRules.{Valued, Declared}
+use Rattle.layer_rules.specs.AttributeValues.{Valued, Declared}
 use Rattle.ann_reader.specs.Roles.{role_read}
 use Rattle.ann_reader.specs.NamesRead.{type_read, event_read, relation_read, attribute_read, value_read}
 use Rattle.mark_base.specs.ReadIds.{id_read}

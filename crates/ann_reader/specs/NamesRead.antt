@@ -7,7 +7,7 @@ use Rattle.type_hierarchy.specs.TypeTrees.{type_named}
 use Rattle.conf_model.specs.Configurations.{Configuration}
 use Rattle.conf_model.specs.Lookups.{relation_named, attribute_named, value_named}
 use Rattle.layer_rules.specs.Targets.{is_event_type}
-use Rattle.layer_core.specs.CommandRules.{Valued, Undeclared, Declared}
+use Rattle.layer_rules.specs.AttributeValues.{Valued, Undeclared, Declared}
 
 -- what a table has under a word that is a name
 abbrev pub by_name : {X : Type 0} → (List ℕ → Option X) → List ℕ → Option X

@@ -3,7 +3,7 @@ ghost use Rattle.std.specs.Prelude.{◌≡◌, IfOk, IfSome, is_none, is_some, l
 ghost use Rattle.std.specs.List.{list_any};
 ghost use Rattle.mark_base.specs.Names.{name_fault};
 ghost use Rattle.conf_model.specs.Lookups.{values_of};
-ghost use Rattle.layer_core.specs.CommandRules.{value_refused};
+ghost use Rattle.layer_rules.specs.AttributeValues.{value_refused};
 ghost use Rattle.layer_rules.specs.LayerRules.{counted_letter};
 ghost use Rattle.layer_rules.specs.MarkRules.{is_barred_type};
 ghost use Rattle.std.specs.Option.{option_map_or};

@@ -44,7 +44,7 @@ use Rattle.layer_rules.specs.FlawPlaces.{by_place}
 use Rattle.layer_rules.specs.MarkRules.{where_so, unknown_type, unknown_class, bad_fragments, unknown_value, is_bad_value}
 use Rattle.layer_rules.specs.LayerRules.{bad_text}
 use Rattle.layer_rules.specs.BadTexts.{are_fragments, is_bad_text, is_bad_store, is_bad_entry}
-use Rattle.layer_core.specs.CommandRules.{Declared}
+use Rattle.layer_rules.specs.AttributeValues.{Declared}
 use Rattle.layer_rules.specs.Targets.{is_event_type}
 use Rattle.layer_rules.specs.WellFormed.{IsWellFormed, Never, no_class}
 use Rattle.layer_rules.proofs.PlaceLemmas.{at_entry}

@@ -15,7 +15,7 @@ use Rattle.conf_model.specs.Lookups.{relation_named, relation_role, attribute_na
 use Rattle.conf_model.specs.Sound.{IsSound, IsName, IsRole, AreRoles, IsRelation, IsAttribute}
 use Rattle.annotation_conf.proofs.Written.{IsWord}
 use Rattle.conf_model.specs.ConfFaults.{stands_twice}
-use Rattle.layer_core.specs.CommandRules.{Undeclared, Declared}
+use Rattle.layer_rules.specs.AttributeValues.{Undeclared, Declared}
 use Rattle.layer_rules.specs.Targets.{is_event_type}
 use Rattle.ann_reader.specs.NamesRead.{by_name, type_read, where_event, event_read, relation_read, attribute_read, value_read}
 use Rattle.ann_reader.specs.LineMeanings.{is_role}

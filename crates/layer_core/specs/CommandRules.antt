@@ -11,7 +11,7 @@ use Rattle.mark_base.specs.declared.arguments.Arg.{Arg}
 use Rattle.mark_base.specs.declared.named_args.NamedArg.{NamedArg}
 use Rattle.type_hierarchy.specs.TypeTrees.{type_named}
 use Rattle.conf_model.specs.Configurations.{Configuration}
-use Rattle.conf_model.specs.Lookups.{role_named, value_named, attribute_admits, is_equivalence}
+use Rattle.conf_model.specs.Lookups.{role_named, attribute_admits, is_equivalence}
 use Rattle.layer_model.specs.declared.mark.Mark.{Mark}
 use Rattle.layer_model.specs.declared.mark.Mark.TheVariants.{Attribute}
 use Rattle.layer_model.specs.declared.class.Class.{Class}
@@ -22,7 +22,8 @@ use Rattle.layer_model.specs.Annotations.{Annotations}
 use Rattle.layer_model.specs.Layers.{mark_at, greatest}
 use Rattle.layer_model.specs.LayerIds.{ids_of, ids_of_letter}
 use Rattle.layer_rules.specs.Targets.{is_event_type, type_of, target_of}
-use Rattle.layer_rules.specs.MarkRules.{where_so, is_barred_type, named_by, Wanted, is_bad_value}
+use Rattle.layer_rules.specs.MarkRules.{where_so, is_barred_type, named_by, Wanted}
+use Rattle.layer_rules.specs.AttributeValues.{Valued, Undeclared, Declared}
 use Rattle.layer_rules.specs.LayerRules.{is_id, is_arg, are_bad_members}
 
 -- the event type of a name
@@ -113,21 +114,6 @@ abbrev pub no_such_argument : Configuration → Annotations → AnnId → NamedA
 no_such_argument conf layer id arg =
     option_and_then (λ event. option_and_then (λ wanted. where_so (not (list_any (is_arg wanted) event.args)) NoSuchArgument) (arg_named conf event.kind arg))
     (if is_event_letter id.kind then finite.get layer.events id.number else None)
-
--- the value of a name where one is given: none of none, or the declared one
-pub data Valued : Type 0 where
-  Undeclared : Valued
-  Declared : Option ℕ → Valued
-
--- what a name of a value, or none, says of an attribute
-abbrev pub value_of : Configuration → ℕ → Option (List ℕ) → Valued
-value_of conf attribute None = Declared None
-value_of conf attribute (Some name) = option_map_or (λ value. Declared (Some value)) (value_named conf attribute name) Undeclared
-
--- a value that the attribute does not have
-abbrev pub value_refused : ℕ → Valued → Bool
-value_refused declared Undeclared = true
-value_refused declared (Declared value) = is_bad_value declared value
 
 -- the attribute of a type and a target has this value
 abbrev pub has_value : Option ℕ → Valued → Bool

@@ -23,7 +23,8 @@ use Rattle.layer_rules.specs.Targets.{is_attribute_target, type_of}
 use Rattle.layer_rules.specs.MarkRules.{where_so, first_missing, first_unwanted, Wanted, argument, trigger, member}
 use Rattle.layer_rules.specs.LayerRules.{is_id, same_spans, same_events, same_relations, same_attributes, refused_overlap}
 use Rattle.layer_rules.specs.WellFormed.{least_flaw}
-use Rattle.layer_core.specs.CommandRules.{event_named, undeclared, barred, no_equivalence, of_letters, is_span_letter, is_event_letter, is_attribute_letter, in_use, trigger_in_use, used_up, roles_undeclared, event_type, no_such_argument, value_of, value_refused, attribute_on, attribute_same, target_refused, members_refused, not_in_class}
+use Rattle.layer_core.specs.CommandRules.{event_named, undeclared, barred, no_equivalence, of_letters, is_span_letter, is_event_letter, is_attribute_letter, in_use, trigger_in_use, used_up, roles_undeclared, event_type, no_such_argument, attribute_on, attribute_same, target_refused, members_refused, not_in_class}
+use Rattle.layer_rules.specs.AttributeValues.{value_of, value_refused}
 use Rattle.layer_core.specs.MadeLayers.{Draft, draft, is_note_on, is_reference_to, lowest}
 
 -- the target of an attribute

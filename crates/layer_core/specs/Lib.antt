@@ -3,5 +3,5 @@ pub mod MadeLayers
 pub mod CommandRules
 pub mod Cascade
 pub mod DraftShows
-pub mod AttributeValue
+pub mod ValueShows
 pub mod Works

@@ -26,7 +26,8 @@ use Rattle.mark_base.specs.ReadIds.{id_at}
 use Rattle.layer_model.specs.LayerIds.{ids_of, ids_of_letter}
 use Rattle.layer_rules.specs.MarkRules.{named_by}
 use Rattle.layer_rules.specs.LayerRules.{is_id, is_arg}
-use Rattle.layer_core.specs.CommandRules.{event_named, is_span_letter, is_event_letter, is_relation_letter, first_naming, is_in_trigger, args_named, arg_named, Valued, Undeclared, Declared, value_of, attribute_on}
+use Rattle.layer_core.specs.CommandRules.{event_named, is_span_letter, is_event_letter, is_relation_letter, first_naming, is_in_trigger, args_named, arg_named, attribute_on}
+use Rattle.layer_rules.specs.AttributeValues.{Valued, Undeclared, Declared, value_of}
 
 -- a layer that a command makes, the annotation that is new or changed in it, and whether it is new
 pub record Draft : Type 0 where

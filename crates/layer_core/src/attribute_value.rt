@@ -1,7 +1,8 @@
 //! The value that a command gives to an attribute.
 ghost use Rattle.std.specs.Prelude.{◌≡◌};
-ghost use Rattle.layer_core.specs.CommandRules.{has_value, value_of, value_refused};
-ghost use Rattle.layer_core.specs.AttributeValue.{valued_of};
+ghost use Rattle.layer_core.specs.CommandRules.{has_value};
+ghost use Rattle.layer_rules.specs.AttributeValues.{value_of, value_refused};
+ghost use Rattle.layer_core.specs.ValueShows.{valued_of};
 
 use conf_model::Conf;
 use mark_base::{AttrId, Name};

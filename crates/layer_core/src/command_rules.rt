@@ -9,7 +9,7 @@ ghost use Rattle.layer_core.specs.Commands.{first_broken, frags_rule, moved_rule
 ghost use Rattle.layer_core.specs.CommandRules.{event_type, has_value, is_attribute_letter, is_event_letter, is_in_class, is_span_letter, members_refused, no_such_argument, not_in_class, of_letters, roles_undeclared, target_refused, used_up, value_at};
 ghost use Rattle.layer_rules.specs.LayerRules.{is_arg, is_id};
 ghost use Rattle.layer_rules.specs.MarkRules.{argument, first_missing, first_unwanted, trigger, where_so};
-ghost use Rattle.layer_core.specs.AttributeValue.{valued_of};
+ghost use Rattle.layer_core.specs.ValueShows.{valued_of};
 
 use crate::Command;
 use crate::attribute_value::{Valued, is_had, is_refused, value_of};

@@ -6,6 +6,7 @@ pub mod LayerRules
 pub mod FlawPlaces
 pub mod NamedByRule
 pub mod MarkRules
+pub mod AttributeValues
 pub mod BadTexts
 pub mod Targets
 pub mod LowestFlaw

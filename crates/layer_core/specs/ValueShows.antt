@@ -1,7 +1,7 @@
 -- The value that a command gives to an attribute, as the code keeps it (private calls only).
 use Rattle.layer_core.specs.declared.attribute_value.Valued as kept
 use Rattle.layer_core.specs.declared.attribute_value.Valued.TheVariants as given
-use Rattle.layer_core.specs.CommandRules.{Valued, Undeclared, Declared}
+use Rattle.layer_rules.specs.AttributeValues.{Valued, Undeclared, Declared}
 
 -- the value that is meant
 abbrev pub valued_of : kept.Valued → Valued
