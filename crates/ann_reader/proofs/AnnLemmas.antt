@@ -13,7 +13,7 @@ use Rattle.layer_model.specs.Layers.{has, mark_at}
 use Rattle.layer_rules.specs.LayerRules.{is_id}
 use Rattle.ann_reader.specs.Lines.{Line, is_blank, lines_from}
 use Rattle.ann_reader.specs.LineForms.{Form, BadForm, TextForm, EventForm, RelationForm, AttributeForm, ClassForm, NormalForm, NoteForm, form_of}
-use Rattle.ann_reader.specs.References.{references, own_word, own_id, is_own_misspelt, is_misspelt}
+use Rattle.ann_reader.specs.LineIds.{id_words, own_word, own_id, is_own_misspelt, is_misspelt}
 use Rattle.ann_reader.specs.LineMeanings.{said_of}
 use Rattle.ann_reader.specs.LineFaults.{is_headed, headed_by, is_twice, line_fault, first_line_fault, count_like}
 use Rattle.ann_reader.specs.AnnFaults.{with_line, layer_of}
@@ -115,7 +115,7 @@ is_new conf all before rest line id e below own once =
     ]
 
 pub own_spelt : (conf : Configuration) (all : List Line) (line : Line) (form : Form) → Clean conf all line form → is_own_misspelt form ≡ false
-own_spelt conf all line form good = (or_parts (is_own_misspelt form) (list_any is_misspelt (references form)) good.spelt).0
+own_spelt conf all line form good = (or_parts (is_own_misspelt form) (list_any is_misspelt (id_words form)) good.spelt).0
 
 held_one : (conf : Configuration) (all before rest : List Line) (line : Line) (word : List ℕ)
     → all ≡ before ++ line ∷ rest → Below line.number before → Clean conf all line (form_of line.bytes) → own_word (form_of line.bytes) ≡ Some word

@@ -13,7 +13,7 @@ use Rattle.ann_reader.specs.NamesRead.{relation_read}
 use Rattle.mark_base.specs.ReadIds.{id_read}
 use Rattle.ann_reader.specs.Words.{all_of}
 use Rattle.ann_reader.specs.LineForms.{Form, BadForm, TextForm, EventForm, RelationForm, AttributeForm, ClassForm, NormalForm, NoteForm}
-use Rattle.ann_reader.specs.References.{own_id}
+use Rattle.ann_reader.specs.LineIds.{own_id}
 use Rattle.ann_reader.specs.LineMeanings.{Said, mark_of, said_of, said_by}
 use Rattle.ann_reader.specs.AnnFaults.{with_read, with_said, with_form}
 use Rattle.ann_reader.specs.FormShows.{NamesSome, seen_said}

@@ -23,7 +23,7 @@ use Rattle.mark_base.specs.ReadIds.{id_read}
 use Rattle.ann_reader.specs.Words.{all_of}
 use Rattle.ann_reader.specs.NamesRead.{type_read, event_read, relation_read, attribute_read, value_read}
 use Rattle.ann_reader.specs.LineForms.{Pair, Form, BadForm, TextForm, EventForm, RelationForm, AttributeForm, ClassForm, NormalForm, NoteForm, form_of}
-use Rattle.ann_reader.specs.References.{Reference, references, may_stand, of_letters, own_word, own_id, is_own_misspelt, is_misspelt, has_no_letter}
+use Rattle.ann_reader.specs.LineIds.{IdWord, id_words, may_stand, of_letters, own_word, own_id, is_own_misspelt, is_misspelt, has_no_letter}
 use Rattle.ann_reader.specs.LineMeanings.{arg_of, args_of, arg_by, Ends, ends_of, is_role, span_by, event_by, relation_by, attribute_by, normal_by, mark_of, said_of, said_by}
 use Rattle.ann_reader.specs.LineFaults.{is_bad_line, has_bad_id, is_twice, has_unknown_type, has_barred_type, first_absent, first_unfit, wanted_of, has_unknown_role, has_unknown_value, line_rule, line_fault, naming_rule, value_rule}
 use Rattle.ann_reader.specs.AnnFiles.{is_span_word}
@@ -53,7 +53,7 @@ pub record Clean (conf : Configuration) (all : List Line) (line : Line) (form : 
   pub types : has_unknown_type conf form ≡ false
   pub roles : has_unknown_role conf form ≡ false
   pub values : has_unknown_value conf form ≡ false
-  pub letters : first_unfit (references form) ≡ None
+  pub letters : first_unfit (id_words form) ≡ None
 
 step : {X : Type 0} (a : X) (b : Bool) (o : Option X) → cond b (Some a) o ≡ None → (b ≡ false) × (o ≡ None)
 step a true o e = absurd (not_some e)
@@ -81,8 +81,8 @@ clean conf all before line e =
     let rules = later_none (naming_rule conf all form) (value_rule conf before line form) (unmapped Broken (line_rule conf all before line form) c.1) in
     let names = first_none (has_unknown_type conf form) UnknownType _ rules.0 in
     let uses = first_none (has_barred_type conf form) NotForUse _ names.1 in
-    let there = later_none (first_absent all (references form)) _ uses.1 in
-    let fit = later_none (first_unfit (references form)) None there.1 in
+    let there = later_none (first_absent all (id_words form)) _ uses.1 in
+    let fit = later_none (first_unfit (id_words form)) None there.1 in
     let role = first_none (has_unknown_role conf form) UnknownRole _ rules.1 in
     let value = first_none (has_unknown_value conf form) UnknownValue _ role.1 in
     record { formed = a.0; spelt = b.0; once = c.0; types = names.0; roles = role.0; values = value.0; letters = fit.0 }
@@ -90,7 +90,7 @@ clean conf all before line e =
 -- ---- the IDs that it names
 
 -- the first of some IDs is of a letter that fits
-first_fits : (letters : Letters) (word : List ℕ) (more : List Reference) (id : AnnId) → id_read word ≡ Some id
+first_fits : (letters : Letters) (word : List ℕ) (more : List IdWord) (id : AnnId) → id_read word ≡ Some id
     → first_unfit (of_letters letters word ∷ more) ≡ None → may_stand letters id.kind ≡ true
 first_fits letters word more id e f =
     let wanted : AnnId → Wanted = λ one. record { id = one; fits = may_stand letters one.kind } in
@@ -102,7 +102,7 @@ first_fits letters word more id e f =
 pub trigger_fits : (conf : Configuration) (all : List Line) (line : Line) (first kind trigger : List ℕ) (pairs : List Pair)
     → Clean conf all line (EventForm first kind trigger pairs) → is_span_word trigger ≡ true
 trigger_fits conf all line first kind trigger pairs clean =
-    let spelt = or_parts (is_own_misspelt (EventForm first kind trigger pairs)) (list_any is_misspelt (references (EventForm first kind trigger pairs))) clean.spelt in
+    let spelt = or_parts (is_own_misspelt (EventForm first kind trigger pairs)) (list_any is_misspelt (id_words (EventForm first kind trigger pairs))) clean.spelt in
     let ids = or_parts (is_none (id_read trigger)) (list_any is_misspelt (map (λ pair. of_letters SpansOrEvents pair.target) pairs)) spelt.1 in
     let own = found (id_read trigger) ids.0 in
     ap (λ o. option_map_or (λ (id : AnnId). is_span_letter id.kind) o false) own.1
@@ -165,7 +165,7 @@ marked conf all line (TextForm first kind frags text) word clean e =
     let id = found (type_read conf kind) clean.types in (_, ap (λ o. span_by o frags) id.1)
 marked conf all line (EventForm first kind trigger pairs) word clean e =
     let id = found (event_read conf kind) clean.types in
-    let spelt = or_parts (is_own_misspelt (EventForm first kind trigger pairs)) (list_any is_misspelt (references (EventForm first kind trigger pairs))) clean.spelt in
+    let spelt = or_parts (is_own_misspelt (EventForm first kind trigger pairs)) (list_any is_misspelt (id_words (EventForm first kind trigger pairs))) clean.spelt in
     let ids = or_parts (is_none (id_read trigger)) (list_any is_misspelt (map (λ pair. of_letters SpansOrEvents pair.target) pairs)) spelt.1 in
     let own = found (id_read trigger) ids.0 in
     let roles : list_any (λ pair. is_none (role_read conf id.0.n pair.role)) pairs ≡ false =
@@ -177,7 +177,7 @@ marked conf all line (EventForm first kind trigger pairs) word clean e =
     )
 marked conf all line (RelationForm first kind a b) word clean e =
     let id = found (relation_read conf kind) clean.types in
-    let spelt = or_parts (is_own_misspelt (RelationForm first kind a b)) (list_any is_misspelt (references (RelationForm first kind a b))) clean.spelt in
+    let spelt = or_parts (is_own_misspelt (RelationForm first kind a b)) (list_any is_misspelt (id_words (RelationForm first kind a b))) clean.spelt in
     let ids = or_parts (is_none (id_read a.target)) (list_any is_misspelt (of_letters SpansOrEvents b.target ∷ [])) spelt.1 in
     let others = or_parts (is_none (id_read b.target)) false ids.1 in
     let ends = found (ends_of conf id.0 a b) (sym (ap (λ o. option_map_or (λ kind. is_none (ends_of conf kind a b)) o false) id.1) ∙ clean.roles) in
@@ -188,7 +188,7 @@ marked conf all line (RelationForm first kind a b) word clean e =
     )
 marked conf all line (AttributeForm first kind target value) word clean e =
     let id = found (attribute_read conf kind) clean.types in
-    let spelt = or_parts (is_own_misspelt (AttributeForm first kind target value)) (list_any is_misspelt (references (AttributeForm first kind target value))) clean.spelt in
+    let spelt = or_parts (is_own_misspelt (AttributeForm first kind target value)) (list_any is_misspelt (id_words (AttributeForm first kind target value))) clean.spelt in
     let ids = or_parts (is_none (id_read target)) false spelt.1 in
     let own = found (id_read target) ids.0 in
     let good = valued (length (values_of conf id.0)) (value_read conf id.0 value) (sym (ap (λ o. option_map_or (λ kind. value_refused (length (values_of conf kind)) (value_read conf kind value)) o false) id.1) ∙ clean.values) in (
@@ -197,16 +197,16 @@ marked conf all line (AttributeForm first kind target value) word clean e =
           ∙ ap (λ o. attribute_by id.0 o (value_read conf id.0 value)) own.1 ∙ ap (λ v. attribute_by id.0 (Some own.0) v) good.1,
     )
 marked conf all line (NormalForm first target store entry text) word clean e =
-    let spelt = or_parts (is_own_misspelt (NormalForm first target store entry text)) (list_any is_misspelt (references (NormalForm first target store entry text))) clean.spelt in
+    let spelt = or_parts (is_own_misspelt (NormalForm first target store entry text)) (list_any is_misspelt (id_words (NormalForm first target store entry text))) clean.spelt in
     let ids = or_parts (is_none (id_read target)) false spelt.1 in
     let own = found (id_read target) ids.0 in
     (_, ap (λ o. normal_by o store entry text) own.1)
 marked conf all line (NoteForm first kind target text) word clean e =
-    let spelt = or_parts (is_own_misspelt (NoteForm first kind target text)) (list_any is_misspelt (references (NoteForm first kind target text))) clean.spelt in
+    let spelt = or_parts (is_own_misspelt (NoteForm first kind target text)) (list_any is_misspelt (id_words (NoteForm first kind target text))) clean.spelt in
     let ids = or_parts (is_none (id_read target)) false spelt.1 in
     let own = found (id_read target) ids.0 in
     let made : AnnId → Mark = λ id. sort.Note (record { kind = kind; target = id; text = text }) in
-    let named = or_parts (is_some (name_fault kind)) (list_any has_no_letter (references (NoteForm first kind target text))) clean.formed in
+    let named = or_parts (is_some (name_fault kind)) (list_any has_no_letter (id_words (NoteForm first kind target text))) clean.formed in
     (_, ap (λ b. cond (not b) (option_map made (id_read target)) None) named.0 ∙ ap (option_map made) own.1)
 
 -- one of a class says what it says
@@ -214,6 +214,6 @@ pub said_found : (conf : Configuration) (all : List Line) (line : Line) (kind : 
     → Clean conf all line (ClassForm kind ids) → Found (said_of conf (ClassForm kind ids))
 said_found conf all line kind ids clean =
     let id = found (relation_read conf kind) clean.types in
-    let spelt = or_parts (is_own_misspelt (ClassForm kind ids)) (list_any is_misspelt (references (ClassForm kind ids))) clean.spelt in
+    let spelt = or_parts (is_own_misspelt (ClassForm kind ids)) (list_any is_misspelt (id_words (ClassForm kind ids))) clean.spelt in
     let members = all_read ids spelt.1 in
     (_, ap (λ o. said_by o (all_of (map id_read ids))) id.1 ∙ ap (λ o. said_by (Some id.0) o) members.1)

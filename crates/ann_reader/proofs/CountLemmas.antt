@@ -18,7 +18,7 @@ use Rattle.layer_rules.specs.LayerRules.{counted_letter}
 use Rattle.ann_reader.specs.Lines.{Line}
 use Rattle.mark_base.specs.AnnIds.{kind_read}
 use Rattle.ann_reader.specs.LineForms.{Form, BadForm, TextForm, EventForm, RelationForm, AttributeForm, ClassForm, NormalForm, NoteForm, form_of}
-use Rattle.ann_reader.specs.References.{own_id, own_word}
+use Rattle.ann_reader.specs.LineIds.{own_id, own_word}
 use Rattle.ann_reader.specs.LineMeanings.{Said, mark_of as mark_said, said_of}
 use Rattle.ann_reader.specs.LineFaults.{counted_byte}
 use Rattle.ann_reader.specs.AnnFaults.{with_read, with_said, with_line, layer_of}

@@ -20,7 +20,7 @@ use Rattle.ann_reader.specs.declared.ann_fault.AnnWhat.TheVariants.{Broken}
 use Rattle.ann_reader.specs.Lines.{Line, lines_of}
 use Rattle.mark_base.specs.AnnIds.{kind_read}
 use Rattle.ann_reader.specs.LineForms.{Form, BadForm, TextForm, EventForm, RelationForm, AttributeForm, ClassForm, NormalForm, NoteForm, form_of}
-use Rattle.ann_reader.specs.References.{references, has_no_letter, is_misspelt, is_own_misspelt}
+use Rattle.ann_reader.specs.LineIds.{id_words, has_no_letter, is_misspelt, is_own_misspelt}
 use Rattle.ann_reader.specs.LineFaults.{is_formless, is_nameless, is_twice, has_unknown_type, has_barred_type, has_unknown_role, has_unknown_value, has_bad_text, one_too_many, count_like, naming_rule, value_rule, line_rule, line_fault, first_line_fault}
 use Rattle.ann_reader.specs.AnnFaults.{as_space, differing, text_differs, text_fault, first_text_fault, layer_of, layer_fault, ann_fault}
 use Rattle.ann_reader.specs.AnnFiles.{IsAnn, Spells, is_line_of}
@@ -49,8 +49,8 @@ AllHead layer all = (id : AnnId) → has layer id ≡ true → list_any (is_line
 no_rule : (conf : Configuration) (layer : Annotations) (all : List Line) (before : ℕ) (line : Line) (form : Form) → Keeps conf layer form → AllHead layer all
     → one_too_many before (slice_index line.bytes 0) ≡ None → line_rule conf all before line form ≡ None
 no_rule conf layer all before line form keeps heads room =
-    let absent = none_absent layer all (references form) heads keeps.stand in
-    let unfit = none_unfit layer (references form) keeps.stand in
+    let absent = none_absent layer all (id_words form) heads keeps.stand in
+    let unfit = none_unfit layer (id_words form) keeps.stand in
     let naming : naming_rule conf all form ≡ None =
     neither _ _ (not_so (has_unknown_type conf form) UnknownType keeps.types) (neither _ _ (not_so (has_barred_type conf form) NotForUse keeps.for_use) (neither _ _ absent (neither _ _ unfit refl))) in
     let valuing : value_rule conf before line form ≡ None =
@@ -62,8 +62,8 @@ no_fault : (conf : Configuration) (layer : Annotations) (all : List Line) (befor
     → one_too_many before (slice_index line.bytes 0) ≡ None → line_fault conf all before line ≡ None
 no_fault conf layer all before line keeps once heads room =
     let form = form_of line.bytes in
-    sym (ruled conf all before line form refl (sym (or_from (is_formless form || is_nameless form) (list_any has_no_letter (references form)) keeps.formed (all_lettered layer (references form) keeps.stand)))
-    (sym (or_from (is_own_misspelt form) (list_any is_misspelt (references form)) keeps.own (all_spelt layer (references form) keeps.stand))) (sym once) None
+    sym (ruled conf all before line form refl (sym (or_from (is_formless form || is_nameless form) (list_any has_no_letter (id_words form)) keeps.formed (all_lettered layer (id_words form) keeps.stand)))
+    (sym (or_from (is_own_misspelt form) (list_any is_misspelt (id_words form)) keeps.own (all_spelt layer (id_words form) keeps.stand))) (sym once) None
     (sym (ap (option_map Broken) (no_rule conf layer all before line form keeps heads room))))
 
 no_line_fault : (conf : Configuration) (layer : Annotations) (all before lines : List Line) → all ≡ before ++ lines → AllKeep conf layer lines → AllByRecursion (λ line. is_twice all line ≡ false) lines → AllHead layer all

@@ -17,7 +17,7 @@ use Rattle.mark_base.specs.AnnIds.{kind_read, number_read}
 use Rattle.ann_reader.specs.Words.{words_of, behind_word}
 use Rattle.ann_reader.specs.LineForms.{Pair, Form, BadForm, TextForm, EventForm, RelationForm, AttributeForm, ClassForm, NormalForm, NoteForm, has_byte, before_byte, behind_byte, pairs_read, frags_read, text_with, text_form, event_with, event_form, relation_with, relation_by, relation_form, attribute_by, attribute_form, class_by, class_form, normal_by, normal_form, note_by, note_form, two_form, of_two, three_form, of_three, begins_two, begins_three, form_of, head_field}
 use Rattle.ann_reader.specs.FormShows.{NamesSome}
-use Rattle.ann_reader.specs.References.{own_id}
+use Rattle.ann_reader.specs.LineIds.{own_id}
 use Rattle.ann_reader.specs.LineFaults.{is_formless}
 use Rattle.mark_base.specs.declared.table_places.TypeId.{TypeId}
 use Rattle.mark_base.specs.declared.arguments.Arg.{Arg}

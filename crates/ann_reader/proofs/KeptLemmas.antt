@@ -8,7 +8,7 @@ use Rattle.layer_model.specs.Coherent.{IsCoherent}
 use Rattle.layer_rules.specs.WellFormed.{IsWellFormed}
 use Rattle.ann_reader.specs.Lines.{Line}
 use Rattle.ann_reader.specs.LineForms.{Form, BadForm, TextForm, EventForm, RelationForm, AttributeForm, ClassForm, NormalForm, NoteForm, form_of}
-use Rattle.ann_reader.specs.References.{references, has_no_letter, is_misspelt, is_own_misspelt}
+use Rattle.ann_reader.specs.LineIds.{id_words, has_no_letter, is_misspelt, is_own_misspelt}
 use Rattle.ann_reader.specs.LineMeanings.{Said, said_of}
 use Rattle.ann_reader.specs.LineFaults.{is_formless, is_nameless, is_twice}
 use Rattle.ann_reader.specs.AnnFiles.{Spells}
@@ -46,13 +46,13 @@ all_keep conf text layer (line ∷ lines) good coherent spelt covered =
 -- what a line without a fault keeps
 cleans_one : (conf : Configuration) (layer : Annotations) (all : List Line) (line : Line) (form : Form) → Keeps conf layer form → is_twice all line ≡ false → Clean conf all line form
 cleans_one conf layer all line form keeps once = record {
-  formed = or_from (is_formless form || is_nameless form) (list_any has_no_letter (references form)) keeps.formed (all_lettered layer (references form) keeps.stand);
-  spelt = or_from (is_own_misspelt form) (list_any is_misspelt (references form)) keeps.own (all_spelt layer (references form) keeps.stand);
+  formed = or_from (is_formless form || is_nameless form) (list_any has_no_letter (id_words form)) keeps.formed (all_lettered layer (id_words form) keeps.stand);
+  spelt = or_from (is_own_misspelt form) (list_any is_misspelt (id_words form)) keeps.own (all_spelt layer (id_words form) keeps.stand);
   once = once;
   types = keeps.types;
   roles = keeps.roles;
   values = keeps.values;
-  letters = none_unfit layer (references form) keeps.stand;
+  letters = none_unfit layer (id_words form) keeps.stand;
 }
 
 pub all_cleaned : (conf : Configuration) (layer : Annotations) (all lines : List Line) → AllKeep conf layer lines → AllByRecursion (λ line. is_twice all line ≡ false) lines → AllClean conf all lines

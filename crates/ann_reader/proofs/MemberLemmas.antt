@@ -19,7 +19,7 @@ use Rattle.mark_base.specs.ReadIds.{id_read}
 use Rattle.ann_reader.specs.Words.{all_of}
 use Rattle.ann_reader.specs.LineForms.{ClassForm}
 use Rattle.ann_reader.specs.declared.id_letters.Letters.TheVariants.{Spans}
-use Rattle.ann_reader.specs.References.{references, of_letters}
+use Rattle.ann_reader.specs.LineIds.{id_words, of_letters}
 use Rattle.ann_reader.specs.LineFaults.{has_unknown_type, has_barred_type}
 use Rattle.ann_reader.proofs.PartLemmas.{made, chained, IsSaid}
 use Rattle.ann_reader.proofs.StandLemmas.{AllStand}
@@ -81,7 +81,7 @@ words_stand layer all there spans (word ∷ words) members e h =
 
 -- what holds of a line of a class
 pub record ClassHolds (conf : Configuration) (layer : Annotations) (kind : List ℕ) (ids : List (List ℕ)) : Type 0 where
-  pub stand : AllStand layer (references (ClassForm kind ids))
+  pub stand : AllStand layer (id_words (ClassForm kind ids))
   pub types : has_unknown_type conf (ClassForm kind ids) ≡ false
   pub for_use : has_barred_type conf (ClassForm kind ids) ≡ false
 

@@ -18,7 +18,7 @@ use Rattle.ann_reader.specs.Roles.{role_read}
 use Rattle.mark_base.specs.ReadIds.{id_read}
 use Rattle.ann_reader.specs.LineForms.{Pair, Form, EventForm, RelationForm, AttributeForm, NormalForm, NoteForm}
 use Rattle.ann_reader.specs.declared.id_letters.Letters.TheVariants.{SpansOrEvents}
-use Rattle.ann_reader.specs.References.{references, of_letters}
+use Rattle.ann_reader.specs.LineIds.{id_words, of_letters}
 use Rattle.ann_reader.specs.LineMeanings.{arg_by, arg_of, args_of, Ends, ends_of, is_role}
 use Rattle.ann_reader.specs.AnnFiles.{HasMark, is_span_word}
 use Rattle.ann_reader.proofs.CleanLemmas.{not_some, unsome}
@@ -66,7 +66,7 @@ span_kind letter.Note e = absurd (let lost : false ≡ true = e in cc)
 
 -- what an event names
 pub event_stands : (conf : Configuration) (layer : Annotations) (first kind trigger : List ℕ) (pairs : List Pair) → HasMark conf layer (EventForm first kind trigger pairs)
-    → is_span_word trigger ≡ true → IsCoherent layer → AllStand layer (references (EventForm first kind trigger pairs))
+    → is_span_word trigger ≡ true → IsCoherent layer → AllStand layer (id_words (EventForm first kind trigger pairs))
 event_stands conf layer first kind trigger pairs h span coherent =
     let parts = event_parts conf first kind trigger pairs h.mark h.spelt in
     let event : Event = record { kind = parts.id; trigger = parts.own.number; args = parts.args; within = parts.own.within } in
@@ -102,7 +102,7 @@ ends_either conf kind a b ends P e first second =
 
 -- what a relation names
 pub relation_stands : (conf : Configuration) (layer : Annotations) (first kind : List ℕ) (a b : Pair) → HasMark conf layer (RelationForm first kind a b)
-    → IsCoherent layer → AllStand layer (references (RelationForm first kind a b))
+    → IsCoherent layer → AllStand layer (id_words (RelationForm first kind a b))
 relation_stands conf layer first kind a b h coherent =
     let parts = relation_parts conf first kind a b h.mark h.spelt in
     let mark : Mark = marked.Relation (record { kind = record { n = parts.id }; first = parts.x; second = parts.y }) in
@@ -116,7 +116,7 @@ relation_stands conf layer first kind a b h coherent =
 
 -- what an attribute names
 pub attribute_stands : (conf : Configuration) (layer : Annotations) (first kind target : List ℕ) (value : Option (List ℕ)) → HasMark conf layer (AttributeForm first kind target value)
-    → IsCoherent layer → AllStand layer (references (AttributeForm first kind target value))
+    → IsCoherent layer → AllStand layer (id_words (AttributeForm first kind target value))
 attribute_stands conf layer first kind target value h coherent =
     let parts = attribute_parts conf first kind target value h.mark h.spelt in
     let mark : Mark = marked.Attribute (record { kind = record { n = parts.id }; target = parts.on; value = parts.given }) in
@@ -128,7 +128,7 @@ attribute_stands conf layer first kind target value h coherent =
 
 -- what a normalization names
 pub normal_stands : (conf : Configuration) (layer : Annotations) (first target store entry text : List ℕ) → HasMark conf layer (NormalForm first target store entry text)
-    → IsCoherent layer → AllStand layer (references (NormalForm first target store entry text))
+    → IsCoherent layer → AllStand layer (id_words (NormalForm first target store entry text))
 normal_stands conf layer first target store entry text h coherent =
     let parts = normal_parts conf first target store entry text h.mark h.spelt in
     let mark : Mark = marked.Normal (record { target = parts.on; store = store; entry = entry; text = text }) in
@@ -140,7 +140,7 @@ normal_stands conf layer first target store entry text h coherent =
 
 -- what a note names
 pub note_stands : (conf : Configuration) (layer : Annotations) (first kind target text : List ℕ) → HasMark conf layer (NoteForm first kind target text)
-    → IsCoherent layer → AllStand layer (references (NoteForm first kind target text))
+    → IsCoherent layer → AllStand layer (id_words (NoteForm first kind target text))
 note_stands conf layer first kind target text h coherent =
     let parts = note_parts conf first kind target text h.mark h.spelt in
     let mark : Mark = marked.Note (record { kind = kind; target = parts.on; text = text }) in

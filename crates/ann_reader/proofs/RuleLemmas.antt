@@ -31,7 +31,7 @@ use Rattle.ann_reader.specs.Roles.{role_read}
 use Rattle.ann_reader.specs.NamesRead.{value_read}
 use Rattle.mark_base.specs.ReadIds.{id_read}
 use Rattle.ann_reader.specs.LineForms.{Pair, Form, TextForm, EventForm, RelationForm, AttributeForm, ClassForm, NormalForm, NoteForm}
-use Rattle.ann_reader.specs.References.{references, is_own_misspelt}
+use Rattle.ann_reader.specs.LineIds.{id_words, is_own_misspelt}
 use Rattle.ann_reader.specs.LineMeanings.{arg_by, arg_of, args_of, ends_of}
 use Rattle.ann_reader.specs.LineFaults.{is_formless, is_nameless, has_unknown_type, has_barred_type, has_unknown_role, has_unknown_value, has_bad_text}
 use Rattle.ann_reader.specs.AnnFiles.{HasMark, is_span_word}
@@ -47,7 +47,7 @@ use Rattle.ann_reader.proofs.TextLemmas.{unbroken}
 pub record Keeps (conf : Configuration) (layer : Annotations) (form : Form) : Type 0 where
   pub formed : (is_formless form || is_nameless form) ≡ false
   pub own : is_own_misspelt form ≡ false
-  pub stand : AllStand layer (references form)
+  pub stand : AllStand layer (id_words form)
   pub types : has_unknown_type conf form ≡ false
   pub for_use : has_barred_type conf form ≡ false
   pub roles : has_unknown_role conf form ≡ false

@@ -16,7 +16,7 @@ use Rattle.layer_model.specs.Layers.{has, has_number, is_of_kind, mark_at, mark_
 use Rattle.layer_rules.specs.LayerRules.{is_id}
 use Rattle.ann_reader.specs.Lines.{Line}
 use Rattle.ann_reader.specs.LineForms.{form_of}
-use Rattle.ann_reader.specs.References.{own_id}
+use Rattle.ann_reader.specs.LineIds.{own_id}
 use Rattle.ann_reader.specs.LineMeanings.{Said, mark_of as mark_said, said_of}
 use Rattle.ann_reader.specs.AnnFaults.{with_read, with_said, with_line}
 use Rattle.ann_reader.specs.AnnFiles.{is_line_of, said_in, joined_too}

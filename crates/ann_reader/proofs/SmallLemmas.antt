@@ -7,7 +7,7 @@ use Rattle.layer_model.specs.Annotations.{Annotations, no_marks}
 use Rattle.layer_model.specs.Layers.{has_number}
 use Rattle.ann_reader.specs.Lines.{Line}
 use Rattle.ann_reader.specs.LineForms.{form_of}
-use Rattle.ann_reader.specs.References.{own_id}
+use Rattle.ann_reader.specs.LineIds.{own_id}
 use Rattle.ann_reader.specs.LineMeanings.{mark_of as mark_said, said_of}
 use Rattle.ann_reader.specs.AnnFaults.{with_line, with_read, layer_of}
 use Rattle.ann_reader.proofs.SaidLemmas.{none_of, read_came, said_numbers}

@@ -19,7 +19,7 @@ use Rattle.layer_model.specs.Layers.{IsLayer, has, has_number, mark_of}
 use Rattle.layer_rules.specs.LayerRules.{is_id}
 use Rattle.ann_reader.specs.Lines.{Line, lines_of}
 use Rattle.ann_reader.specs.LineForms.{Form, BadForm, TextForm, EventForm, RelationForm, AttributeForm, ClassForm, NormalForm, NoteForm, form_of}
-use Rattle.ann_reader.specs.References.{own_id}
+use Rattle.ann_reader.specs.LineIds.{own_id}
 use Rattle.ann_reader.specs.AnnFiles.{HasMark, Spells, IsAnn, is_line_of, said_in, classes_of}
 use Rattle.ann_reader.proofs.CleanLemmas.{not_some, unsome}
 

@@ -13,7 +13,7 @@ use Rattle.layer_model.proofs.ClassJoin.{joined_kept}
 use Rattle.ann_reader.specs.declared.ann_fault.AnnWhat.TheVariants.{NotUtf8}
 use Rattle.ann_reader.specs.Lines.{Line, lines_of}
 use Rattle.ann_reader.specs.LineForms.{form_of}
-use Rattle.ann_reader.specs.References.{own_id}
+use Rattle.ann_reader.specs.LineIds.{own_id}
 use Rattle.ann_reader.specs.LineMeanings.{Said, mark_of as mark_said, said_of}
 use Rattle.ann_reader.specs.AnnFaults.{with_read, with_said, with_line, layer_of, ann_fault, lines_fault}
 use Rattle.ann_reader.specs.AnnFiles.{IsAnn}

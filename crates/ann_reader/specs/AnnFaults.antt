@@ -18,7 +18,7 @@ use Rattle.layer_rules.specs.WellFormed.{least_flaw}
 use Rattle.ann_reader.specs.declared.ann_fault.AnnWhat.TheVariants.{NotUtf8, WrongText, Broken}
 use Rattle.ann_reader.specs.Lines.{Line, lines_of}
 use Rattle.ann_reader.specs.LineForms.{Form, TextForm, form_of}
-use Rattle.ann_reader.specs.References.{own_id}
+use Rattle.ann_reader.specs.LineIds.{own_id}
 use Rattle.ann_reader.specs.LineMeanings.{Said, mark_of, said_of}
 use Rattle.ann_reader.specs.LineFaults.{Fault, headed_by, first_line_fault}
 

@@ -17,7 +17,7 @@ use Rattle.layer_rules.specs.WellFormed.{IsWellFormed}
 use Rattle.ann_reader.specs.Lines.{Line, lines_of}
 use Rattle.mark_base.specs.ReadIds.{id_read}
 use Rattle.ann_reader.specs.LineForms.{Form, BadForm, TextForm, EventForm, RelationForm, AttributeForm, ClassForm, NormalForm, NoteForm, form_of}
-use Rattle.ann_reader.specs.References.{own_id}
+use Rattle.ann_reader.specs.LineIds.{own_id}
 use Rattle.ann_reader.specs.LineMeanings.{Said, mark_of, said_of}
 use Rattle.ann_reader.specs.LineFaults.{is_twice}
 use Rattle.ann_reader.specs.AnnFaults.{as_space}

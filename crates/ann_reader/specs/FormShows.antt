@@ -3,12 +3,12 @@ use Rattle.std.specs.Prelude.{ℕ, ◌<◌, List, length, map, option_map, ⊤}
 use Rattle.ann_reader.specs.declared.line_form.Pair.{Pair as PairValue}
 use Rattle.ann_reader.specs.declared.line_form.Form.{Form as FormValue}
 use Rattle.ann_reader.specs.declared.line_form.Form.TheVariants as value
-use Rattle.ann_reader.specs.declared.references.Reference.{Reference as ReferenceValue}
+use Rattle.ann_reader.specs.declared.line_ids.IdWord.{IdWord as IdWordValue}
 use Rattle.ann_reader.specs.declared.declared_names.Value.{Value}
 use Rattle.ann_reader.specs.declared.declared_names.Value.TheVariants as given
 use Rattle.layer_rules.specs.AttributeValues.{Valued, Undeclared, Declared}
 use Rattle.ann_reader.specs.LineForms.{Pair, Form, BadForm, TextForm, EventForm, RelationForm, AttributeForm, ClassForm, NormalForm, NoteForm}
-use Rattle.ann_reader.specs.References.{Reference}
+use Rattle.ann_reader.specs.LineIds.{IdWord}
 use Rattle.ann_reader.specs.declared.line_meaning.Ends.{Ends as EndsValue}
 use Rattle.ann_reader.specs.declared.line_meaning.Said.{Said as SaidValue}
 use Rattle.ann_reader.specs.LineMeanings.{Ends, Said}
@@ -34,8 +34,8 @@ seen_form (value.Normal first target store entry text) = NormalForm first.now ta
 seen_form (value.Note first kind target text) = NoteForm first.now kind.now target.now text.now
 
 -- a place of an ID
-abbrev pub seen_reference : ReferenceValue → Reference
-seen_reference reference = record { letters = reference.letters; word = reference.word.now }
+abbrev pub seen_id_word : IdWordValue → IdWord
+seen_id_word id_word = record { letters = id_word.letters; word = id_word.word.now }
 
 -- a value
 abbrev pub seen_value : Value → Valued

@@ -13,7 +13,7 @@ pub mod LineMeanings
 pub mod NamesRead
 pub mod PlainTexts
 pub mod ReadFaults
-pub mod References
+pub mod LineIds
 pub mod Roles
 pub mod Smallest
 pub mod Words

@@ -21,7 +21,7 @@ use Rattle.ann_reader.specs.NamesRead.{type_read, event_read, relation_read, att
 use Rattle.mark_base.specs.ReadIds.{id_read}
 use Rattle.mark_base.specs.AnnIds.{kind_read}
 use Rattle.ann_reader.specs.LineForms.{Form, BadForm, TextForm, EventForm, RelationForm, AttributeForm, ClassForm, NormalForm, NoteForm, form_of, head_field}
-use Rattle.ann_reader.specs.References.{Reference, references, own_id, is_own_misspelt, has_no_letter, is_misspelt, may_stand}
+use Rattle.ann_reader.specs.LineIds.{IdWord, id_words, own_id, is_own_misspelt, has_no_letter, is_misspelt, may_stand}
 use Rattle.ann_reader.specs.LineMeanings.{ends_of}
 
 -- ---- form and IDs
@@ -38,11 +38,11 @@ is_nameless _ = false
 
 -- no form, a note's type that is no name, or a place of an ID that begins with none of the letters
 abbrev pub is_bad_line : Form → Bool
-is_bad_line form = is_formless form || is_nameless form || list_any has_no_letter (references form)
+is_bad_line form = is_formless form || is_nameless form || list_any has_no_letter (id_words form)
 
 -- its own ID is misspelt, or one that it names
 abbrev pub has_bad_id : Form → Bool
-has_bad_id form = is_own_misspelt form || list_any is_misspelt (references form)
+has_bad_id form = is_own_misspelt form || list_any is_misspelt (id_words form)
 
 -- the first field of the line is this ID
 abbrev pub is_headed : AnnId → Line → Bool
@@ -79,15 +79,15 @@ has_barred_type conf (ClassForm kind _) = option_map_or (λ id. not (is_equivale
 has_barred_type conf _ = false
 
 -- the first ID that is named and heads no line
-abbrev pub first_absent : List Line → List Reference → Option Rule
-first_absent all named = option_map NoSuch (find (λ id. is_none (headed_by id all)) (filter_map (λ reference. id_read reference.word) named))
+abbrev pub first_absent : List Line → List IdWord → Option Rule
+first_absent all named = option_map NoSuch (find (λ id. is_none (headed_by id all)) (filter_map (λ id_word. id_read id_word.word) named))
 
 -- an ID with whether its letter may stand in its place
-abbrev pub wanted_of : Reference → Option Wanted
-wanted_of reference = option_map (λ id. record { id = id; fits = may_stand reference.letters id.kind }) (id_read reference.word)
+abbrev pub wanted_of : IdWord → Option Wanted
+wanted_of id_word = option_map (λ id. record { id = id; fits = may_stand id_word.letters id.kind }) (id_read id_word.word)
 
 -- the first ID whose letter may not stand in its place
-abbrev pub first_unfit : List Reference → Option Rule
+abbrev pub first_unfit : List IdWord → Option Rule
 first_unfit named = first_unwanted (filter_map wanted_of named)
 
 -- a role that the event type does not have, or two that are not those of the relation type
@@ -124,8 +124,8 @@ one_too_many before b = if nat_le 10000 before then option_map (λ kind. LayerFu
 -- the first of the rules of types and IDs that a line breaks
 abbrev pub naming_rule : Configuration → List Line → Form → Option Rule
 naming_rule conf all form =
-    first_of (where_so (has_unknown_type conf form) UnknownType ∷ where_so (has_barred_type conf form) NotForUse ∷ first_absent all (references form)
-    ∷ first_unfit (references form) ∷ [])
+    first_of (where_so (has_unknown_type conf form) UnknownType ∷ where_so (has_barred_type conf form) NotForUse ∷ first_absent all (id_words form)
+    ∷ first_unfit (id_words form) ∷ [])
 
 -- the first of the rules of roles, values, texts and counts, where so many lines before it are counted together with it
 abbrev pub value_rule : Configuration → ℕ → Line → Form → Option Rule

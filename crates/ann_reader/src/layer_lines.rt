@@ -4,7 +4,7 @@ ghost use Rattle.ann_reader.specs.AnnFaults.{with_read, with_said, with_form};
 ghost use Rattle.ann_reader.specs.LineTypes.{HasTypes};
 ghost use Rattle.ann_reader.specs.FormShows.{NamesSome, seen_form, seen_said};
 ghost use Rattle.layer_model.specs.Layers.{is_of_kind};
-ghost use Rattle.ann_reader.specs.References.{own_id};
+ghost use Rattle.ann_reader.specs.LineIds.{own_id};
 
 use crate::declared_names::LineTypes;
 use crate::line_form::Form;

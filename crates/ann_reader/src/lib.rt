@@ -19,7 +19,7 @@ mod normalization_line;
 mod note_line;
 mod pairs;
 mod reader;
-mod references;
+mod line_ids;
 mod relation_line;
 mod roles;
 mod text_line;

@@ -9,12 +9,12 @@ ghost use Rattle.layer_rules.specs.MarkRules.{is_barred_type};
 ghost use Rattle.std.specs.Option.{option_map_or};
 ghost use Rattle.std.specs.Prelude.{false};
 ghost use Rattle.ann_reader.specs.Roles.{role_read};
-ghost use Rattle.ann_reader.specs.References.{own_id, references};
+ghost use Rattle.ann_reader.specs.LineIds.{own_id, id_words};
 ghost use Rattle.ann_reader.specs.LineForms.{form_of};
 ghost use Rattle.ann_reader.specs.LineFaults.{is_formless, is_nameless, is_twice, has_unknown_type, has_barred_type, first_absent, first_unfit, has_unknown_role, has_unknown_value, has_bad_text, one_too_many, naming_rule, value_rule, line_rule, is_bad_line, has_bad_id, line_fault};
 ghost use Rattle.ann_reader.specs.LineShows.{seen_line};
 ghost use Rattle.ann_reader.specs.LineTypes.{HasTypes};
-ghost use Rattle.ann_reader.specs.FormShows.{seen_form, seen_pair, seen_reference, seen_value};
+ghost use Rattle.ann_reader.specs.FormShows.{seen_form, seen_pair, seen_id_word, seen_value};
 
 use crate::AnnWhat;
 use crate::declared_names::{LineTypes, Value, value_read};
@@ -22,8 +22,8 @@ use crate::known_lines::KnownLines;
 use crate::line::Line;
 use crate::line_form::{Form, Pair};
 use crate::line_meaning::ends_of;
-use crate::references::{
-    Reference, is_own_misspelt, may_stand, references, some_misspelt, some_without_letter,
+use crate::line_ids::{
+    IdWord, is_own_misspelt, may_stand, id_words, some_misspelt, some_without_letter,
 };
 use crate::roles::role_read;
 use crate::word::first_byte;
@@ -87,11 +87,11 @@ fn has_barred_type(conf: &Conf, form: &Form, types: &LineTypes) -> bool
 }
 
 /// The first ID that is named and heads no line.
-fn first_absent(known: &KnownLines, named: &[Reference]) -> Option<Rule>
-    ensures { result ≡ first_absent known.now (map seen_reference named.now) }
+fn first_absent(known: &KnownLines, named: &[IdWord]) -> Option<Rule>
+    ensures { result ≡ first_absent known.now (map seen_id_word named.now) }
 {
-    for reference in named {
-        if let Some(id) = AnnId::read(reference.word.as_bytes()) {
+    for id_word in named {
+        if let Some(id) = AnnId::read(id_word.word.as_bytes()) {
             if known.head(id).is_none() {
                 return Some(Rule::NoSuch(id));
             }
@@ -101,12 +101,12 @@ fn first_absent(known: &KnownLines, named: &[Reference]) -> Option<Rule>
 }
 
 /// The first ID whose letter may not stand in its place.
-fn first_unfit(named: &[Reference]) -> Option<Rule>
-    ensures { result ≡ first_unfit (map seen_reference named.now) }
+fn first_unfit(named: &[IdWord]) -> Option<Rule>
+    ensures { result ≡ first_unfit (map seen_id_word named.now) }
 {
-    for reference in named {
-        if let Some(id) = AnnId::read(reference.word.as_bytes()) {
-            if !may_stand(reference.letters, id.kind) {
+    for id_word in named {
+        if let Some(id) = AnnId::read(id_word.word.as_bytes()) {
+            if !may_stand(id_word.letters, id.kind) {
                 return Some(Rule::WrongKind(id));
             }
         }
@@ -218,10 +218,10 @@ fn naming_rule(
     known: &KnownLines,
     form: &Form,
     types: &LineTypes,
-    named: &[Reference],
+    named: &[IdWord],
 ) -> Option<Rule>
     requires typed { HasTypes conf.now (seen_form form.now) types.now }
-    requires named { map seen_reference named.now ≡ references (seen_form form.now) }
+    requires named { map seen_id_word named.now ≡ id_words (seen_form form.now) }
     ensures { result ≡ naming_rule conf.now known.now (seen_form form.now) }
 {
     if has_unknown_type(conf, form, types) {
@@ -293,17 +293,17 @@ fn is_nameless(form: &Form) -> bool
 
 /// Whether a line has no form, a note's type that is no name, or a place of an ID that begins with none of
 /// the letters.
-fn is_bad_line(form: &Form, named: &[Reference]) -> bool
-    requires { map seen_reference named.now ≡ references (seen_form form.now) }
+fn is_bad_line(form: &Form, named: &[IdWord]) -> bool
+    requires { map seen_id_word named.now ≡ id_words (seen_form form.now) }
     ensures { result ≡ is_bad_line (seen_form form.now) }
 {
     is_formless(form) || is_nameless(form) || some_without_letter(named)
 }
 
 /// Whether an ID of a line is misspelt.
-fn has_bad_id(form: &Form, own: Option<AnnId>, named: &[Reference]) -> bool
+fn has_bad_id(form: &Form, own: Option<AnnId>, named: &[IdWord]) -> bool
     requires own { own ≡ own_id (seen_form form.now) }
-    requires named { map seen_reference named.now ≡ references (seen_form form.now) }
+    requires named { map seen_id_word named.now ≡ id_words (seen_form form.now) }
     ensures { result ≡ has_bad_id (seen_form form.now) }
 {
     is_own_misspelt(form, own) || some_misspelt(named)
@@ -318,10 +318,10 @@ fn line_rule(
     line: &Line,
     form: &Form,
     types: &LineTypes,
-    named: &[Reference],
+    named: &[IdWord],
 ) -> Result<Option<Rule>, Memory>
     requires typed { HasTypes conf.now (seen_form form.now) types.now }
-    requires named { map seen_reference named.now ≡ references (seen_form form.now) }
+    requires named { map seen_id_word named.now ≡ id_words (seen_form form.now) }
     ensures { IfOk result (λ rule. rule ≡ line_rule conf.now known.now before (seen_line line.now) (seen_form form.now)) }
 {
     match naming_rule(conf, known, form, types, named) {
@@ -347,7 +347,7 @@ pub(crate) fn line_fault(
     requires typed { HasTypes conf.now (seen_form form.now) types.now }
     ensures { IfOk result (λ what. what ≡ line_fault conf.now known.now before (seen_line line.now)) }
 {
-    let named = references(alloc, form)?;
+    let named = id_words(alloc, form)?;
     if is_bad_line(form, &named) {
         return Ok(Some(AnnWhat::BadLine));
     }

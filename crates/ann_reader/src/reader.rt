@@ -22,7 +22,7 @@ use crate::line_counts::{LineCounts, count_line, count_of};
 use crate::line_fault::line_fault;
 use crate::line_form::{Form, form_of};
 use crate::line_meaning::{Said, said_of};
-use crate::references::own_id;
+use crate::line_ids::own_id;
 use crate::texts::{plain_text, text_differs};
 use crate::word::first_byte;
 use crate::{AnnFault, AnnWhat};

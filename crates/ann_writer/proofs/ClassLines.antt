@@ -25,7 +25,7 @@ use Rattle.ann_reader.specs.Words.{all_of}
 use Rattle.ann_reader.specs.LineForms.{Form, ClassForm, form_of, head_field}
 use Rattle.ann_reader.specs.LineFaults.{is_formless}
 use Rattle.ann_reader.proofs.FormFacts.{head_same}
-use Rattle.ann_reader.specs.References.{own_id}
+use Rattle.ann_reader.specs.LineIds.{own_id}
 use Rattle.ann_reader.specs.LineMeanings.{Said, said_by, said_of}
 use Rattle.ann_reader.specs.AnnFiles.{Spells, joined_too, classes_of}
 use Rattle.ann_writer.specs.Words.{id_word}

@@ -24,7 +24,7 @@ use Rattle.layer_rules.proofs.PlaceLemmas.{along, is_less, left, right}
 use Rattle.ann_reader.specs.Lines as file
 use Rattle.ann_reader.specs.Lines.{Line, is_blank, lines_from}
 use Rattle.ann_reader.specs.LineForms.{form_of, head_field}
-use Rattle.ann_reader.specs.References.{own_id}
+use Rattle.ann_reader.specs.LineIds.{own_id}
 use Rattle.ann_reader.specs.LineMeanings.{Said, said_of}
 use Rattle.ann_reader.specs.LineFaults.{is_headed, headed_by, is_twice}
 use Rattle.ann_reader.specs.AnnFiles.{Spells, is_line_of, said_in}

@@ -51,7 +51,7 @@ use Rattle.layer_rules.proofs.PlaceLemmas.{at_entry}
 use Rattle.ann_reader.specs.Lines.{is_blank, is_blank_byte}
 use Rattle.ann_reader.specs.LineForms.{Form, TextForm, EventForm, RelationForm, AttributeForm, NormalForm, NoteForm, form_of, head_field}
 use Rattle.ann_reader.specs.LineForms as forms
-use Rattle.ann_reader.specs.References.{own_word, own_id}
+use Rattle.ann_reader.specs.LineIds.{own_word, own_id}
 use Rattle.ann_reader.specs.NamesRead.{value_read}
 use Rattle.ann_reader.specs.LineMeanings.{mark_of, said_of, event_by, args_of, relation_by, ends_of, Ends, is_role, attribute_by}
 use Rattle.ann_reader.specs.AnnFiles.{HasMark, Spells}

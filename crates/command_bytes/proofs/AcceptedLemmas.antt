@@ -10,7 +10,8 @@ use Rattle.layer_model.specs.Annotations.{Annotations}
 use Rattle.layer_model.specs.declared.rule.Rule.{Rule}
 use Rattle.layer_core.specs.declared.command.Command.{Command}
 use Rattle.layer_core.specs.declared.command.Command.TheVariants as ask
-use Rattle.layer_core.specs.Commands.{Applied, apply, answer_of, lower_rule, own_rule, draft_rule}
+use Rattle.layer_core.specs.Commands.{Applied, apply, answer_of, lower_rule, draft_rule}
+use Rattle.layer_core.specs.OwnRules.{own_rule}
 use Rattle.layer_core.specs.MadeLayers.{with_less}
 use Rattle.layer_rules.specs.WellFormed.{IsWellFormed, least_flaw}
 use Rattle.layer_undo.specs.Replays.{next, replay_from, first_refusal}

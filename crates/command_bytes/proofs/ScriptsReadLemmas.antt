@@ -6,7 +6,7 @@ use Rattle.mark_base.specs.declared.failed.Memory.{Memory}
 use Rattle.entry_bytes.proofs.Exact.{IsBytes}
 use Rattle.conf_model.specs.Configurations.{Configuration}
 use Rattle.layer_core.specs.declared.command.Command.{Command}
-use Rattle.command_bytes.specs.declared.read_commands.Scripts.{Scripts}
+use Rattle.command_bytes.specs.declared.script_reading.Scripts.{Scripts}
 use Rattle.command_bytes.specs.CommandBytes.{scripts_bytes}
 use Rattle.command_bytes.specs.WritableCommands.{AreScripts}
 use Rattle.command_bytes.specs.CommandReading.{scripts_of}

@@ -14,10 +14,10 @@
 mod command_values;
 mod id_bytes;
 mod laws;
-mod read_commands;
+mod script_reading;
 mod read_fields;
 mod read_load;
-mod read_plain;
+mod read_commands;
 mod worked_rows;
 mod write_commands;
 mod write_fields;
@@ -28,6 +28,6 @@ pub use crate::laws::{
     accepted_scripts_can_be_written, loads_are_read_again, scripts_are_told_apart,
     scripts_without_loads, typed_scripts_are_read_again,
 };
-pub use crate::read_commands::{Scripts, read_scripts};
+pub use crate::script_reading::{Scripts, read_scripts};
 pub use crate::worked_rows::{examples_of_command_bytes, examples_of_command_reading};
 pub use crate::write_commands::write_scripts;

@@ -1,155 +1,273 @@
-//! Commands and scripts, read from bytes.
-ghost use Rattle.std.specs.Prelude.{◌≡◌, List, Some, IfOk, IfSome, IfNone, option_map};
-ghost use Rattle.layer_core.specs.declared.command.Command.{Command};
-ghost use Rattle.command_bytes.specs.CommandBytes.{scripts_bytes};
-ghost use Rattle.command_bytes.specs.WritableCommands.{AreScripts};
-ghost use Rattle.command_bytes.specs.CommandReading.{ReadsCommand, command_fields_at, command_at, list_on, list_at, scripts_at, scripts_of};
+//! Commands that load no layer, each read from the front of bytes behind its tag.
+ghost use Rattle.std.specs.Prelude.{Some};
+ghost use Rattle.command_bytes.specs.CommandReading.{ReadsCommand, add_span_at, retype_span_at, move_span_at, add_event_at, add_arg_at, remove_arg_at, add_relation_at, set_attribute_at, clear_attribute_at, equate_at, unequate_at, set_note_at, set_reference_at, delete_at, purge_at, plain_at};
 
 use crate::read_fields::Cursor;
-use crate::read_load::take_load;
-use crate::read_plain::take_plain;
-use char_documents::Doc;
-use conf_model::Conf;
 use layer_core::Command;
-use layer_undo::Script;
 use mark_base::Memory;
 use std::alloc::Global;
 
-/// The commands done, and those undone.
-#[derive(Drop)]
-pub struct Scripts {
-    pub done: Script,
-    pub undone: Script,
+/// A span that is added.
+#[tactic(auto, unfolding(crate::specs::CommandReading::add_span_at))]
+fn add_span(alloc: Global, cursor: &mut Cursor<'_>) -> Result<Option<Command>, Memory>
+    ensures { ReadsCommand add_span_at cursor.old cursor.new result }
+{
+    let Some(kind) = cursor.take_name(alloc)? else {
+        return Ok(None);
+    };
+    let Some(frags) = cursor.take_frags(alloc)? else {
+        return Ok(None);
+    };
+    Ok(Some(Command::AddSpan { kind, frags }))
 }
 
-/// Takes the fields behind the number of a command.
-#[tactic(auto, unfolding(crate::specs::CommandReading::command_fields_at))]
-fn take_fields(
+/// Another type for a span.
+#[tactic(auto, unfolding(crate::specs::CommandReading::retype_span_at))]
+fn retype_span(alloc: Global, cursor: &mut Cursor<'_>) -> Result<Option<Command>, Memory>
+    ensures { ReadsCommand retype_span_at cursor.old cursor.new result }
+{
+    let Some(id) = cursor.take_id() else {
+        return Ok(None);
+    };
+    let Some(kind) = cursor.take_name(alloc)? else {
+        return Ok(None);
+    };
+    Ok(Some(Command::RetypeSpan { id, kind }))
+}
+
+/// Other fragments for a span.
+#[tactic(auto, unfolding(crate::specs::CommandReading::move_span_at))]
+fn move_span(alloc: Global, cursor: &mut Cursor<'_>) -> Result<Option<Command>, Memory>
+    ensures { ReadsCommand move_span_at cursor.old cursor.new result }
+{
+    let Some(id) = cursor.take_id() else {
+        return Ok(None);
+    };
+    let Some(frags) = cursor.take_frags(alloc)? else {
+        return Ok(None);
+    };
+    Ok(Some(Command::MoveSpan { id, frags }))
+}
+
+/// An event that is added.
+#[tactic(auto, unfolding(crate::specs::CommandReading::add_event_at))]
+fn add_event(alloc: Global, cursor: &mut Cursor<'_>) -> Result<Option<Command>, Memory>
+    ensures { ReadsCommand add_event_at cursor.old cursor.new result }
+{
+    let Some(kind) = cursor.take_name(alloc)? else {
+        return Ok(None);
+    };
+    let Some(trigger) = cursor.take_id() else {
+        return Ok(None);
+    };
+    let Some(args) = cursor.take_args(alloc)? else {
+        return Ok(None);
+    };
+    Ok(Some(Command::AddEvent {
+        kind,
+        trigger,
+        args,
+    }))
+}
+
+/// An argument that is added.
+#[tactic(auto, unfolding(crate::specs::CommandReading::add_arg_at))]
+fn add_arg(alloc: Global, cursor: &mut Cursor<'_>) -> Result<Option<Command>, Memory>
+    ensures { ReadsCommand add_arg_at cursor.old cursor.new result }
+{
+    let Some(id) = cursor.take_id() else {
+        return Ok(None);
+    };
+    let Some(arg) = cursor.take_arg(alloc)? else {
+        return Ok(None);
+    };
+    Ok(Some(Command::AddArg { id, arg }))
+}
+
+/// An argument that is taken out.
+#[tactic(auto, unfolding(crate::specs::CommandReading::remove_arg_at))]
+fn remove_arg(alloc: Global, cursor: &mut Cursor<'_>) -> Result<Option<Command>, Memory>
+    ensures { ReadsCommand remove_arg_at cursor.old cursor.new result }
+{
+    let Some(id) = cursor.take_id() else {
+        return Ok(None);
+    };
+    let Some(arg) = cursor.take_arg(alloc)? else {
+        return Ok(None);
+    };
+    Ok(Some(Command::RemoveArg { id, arg }))
+}
+
+/// A relation that is added.
+#[tactic(auto, unfolding(crate::specs::CommandReading::add_relation_at))]
+fn add_relation(alloc: Global, cursor: &mut Cursor<'_>) -> Result<Option<Command>, Memory>
+    ensures { ReadsCommand add_relation_at cursor.old cursor.new result }
+{
+    let Some(kind) = cursor.take_name(alloc)? else {
+        return Ok(None);
+    };
+    let Some(first) = cursor.take_id() else {
+        return Ok(None);
+    };
+    let Some(second) = cursor.take_id() else {
+        return Ok(None);
+    };
+    Ok(Some(Command::AddRelation {
+        kind,
+        first,
+        second,
+    }))
+}
+
+/// An attribute that is set.
+#[tactic(auto, unfolding(crate::specs::CommandReading::set_attribute_at))]
+fn set_attribute(alloc: Global, cursor: &mut Cursor<'_>) -> Result<Option<Command>, Memory>
+    ensures { ReadsCommand set_attribute_at cursor.old cursor.new result }
+{
+    let Some(kind) = cursor.take_name(alloc)? else {
+        return Ok(None);
+    };
+    let Some(target) = cursor.take_id() else {
+        return Ok(None);
+    };
+    let Some(value) = cursor.take_value(alloc)? else {
+        return Ok(None);
+    };
+    Ok(Some(Command::SetAttribute {
+        kind,
+        target,
+        value,
+    }))
+}
+
+/// An attribute that is taken away.
+#[tactic(auto, unfolding(crate::specs::CommandReading::clear_attribute_at))]
+fn clear_attribute(cursor: &mut Cursor<'_>) -> Result<Option<Command>, Memory>
+    ensures { ReadsCommand clear_attribute_at cursor.old cursor.new result }
+{
+    let Some(id) = cursor.take_id() else {
+        return Ok(None);
+    };
+    Ok(Some(Command::ClearAttribute { id }))
+}
+
+/// Spans that are one class.
+#[tactic(auto, unfolding(crate::specs::CommandReading::equate_at))]
+fn equate(alloc: Global, cursor: &mut Cursor<'_>) -> Result<Option<Command>, Memory>
+    ensures { ReadsCommand equate_at cursor.old cursor.new result }
+{
+    let Some(kind) = cursor.take_name(alloc)? else {
+        return Ok(None);
+    };
+    let Some(members) = cursor.take_ids(alloc)? else {
+        return Ok(None);
+    };
+    Ok(Some(Command::Equate { kind, members }))
+}
+
+/// A span that is taken out of its class.
+#[tactic(auto, unfolding(crate::specs::CommandReading::unequate_at))]
+fn unequate(alloc: Global, cursor: &mut Cursor<'_>) -> Result<Option<Command>, Memory>
+    ensures { ReadsCommand unequate_at cursor.old cursor.new result }
+{
+    let Some(kind) = cursor.take_name(alloc)? else {
+        return Ok(None);
+    };
+    let Some(id) = cursor.take_id() else {
+        return Ok(None);
+    };
+    Ok(Some(Command::Unequate { kind, id }))
+}
+
+/// A note that is set.
+#[tactic(auto, unfolding(crate::specs::CommandReading::set_note_at))]
+fn set_note(alloc: Global, cursor: &mut Cursor<'_>) -> Result<Option<Command>, Memory>
+    ensures { ReadsCommand set_note_at cursor.old cursor.new result }
+{
+    let Some(target) = cursor.take_id() else {
+        return Ok(None);
+    };
+    let Some(kind) = cursor.take_name(alloc)? else {
+        return Ok(None);
+    };
+    let Some(text) = cursor.take_text(alloc)? else {
+        return Ok(None);
+    };
+    Ok(Some(Command::SetNote { target, kind, text }))
+}
+
+/// A reference that is set.
+#[tactic(auto, unfolding(crate::specs::CommandReading::set_reference_at))]
+fn set_reference(alloc: Global, cursor: &mut Cursor<'_>) -> Result<Option<Command>, Memory>
+    ensures { ReadsCommand set_reference_at cursor.old cursor.new result }
+{
+    let Some(target) = cursor.take_id() else {
+        return Ok(None);
+    };
+    let Some(store) = cursor.take_text(alloc)? else {
+        return Ok(None);
+    };
+    let Some(entry) = cursor.take_text(alloc)? else {
+        return Ok(None);
+    };
+    let Some(text) = cursor.take_text(alloc)? else {
+        return Ok(None);
+    };
+    Ok(Some(Command::SetReference {
+        target,
+        store,
+        entry,
+        text,
+    }))
+}
+
+/// An annotation that is taken away.
+#[tactic(auto, unfolding(crate::specs::CommandReading::delete_at))]
+fn delete(cursor: &mut Cursor<'_>) -> Result<Option<Command>, Memory>
+    ensures { ReadsCommand delete_at cursor.old cursor.new result }
+{
+    let Some(id) = cursor.take_id() else {
+        return Ok(None);
+    };
+    Ok(Some(Command::Delete { id }))
+}
+
+/// An annotation that is taken away with all that names it.
+#[tactic(auto, unfolding(crate::specs::CommandReading::purge_at))]
+fn purge(cursor: &mut Cursor<'_>) -> Result<Option<Command>, Memory>
+    ensures { ReadsCommand purge_at cursor.old cursor.new result }
+{
+    let Some(id) = cursor.take_id() else {
+        return Ok(None);
+    };
+    Ok(Some(Command::Purge { id }))
+}
+
+/// Takes the fields behind the number of a command that is no load.
+#[tactic(auto, unfolding(crate::specs::CommandReading::plain_at))]
+pub(crate) fn take_plain(
     alloc: Global,
     cursor: &mut Cursor<'_>,
     number: u8,
-    doc: &Doc,
-    conf: &Conf,
 ) -> Result<Option<Command>, Memory>
-    ensures { ReadsCommand (command_fields_at conf.now doc.now number) cursor.old cursor.new result }
+    ensures { ReadsCommand (plain_at number) cursor.old cursor.new result }
 {
-    if number == 16 {
-        take_load(alloc, cursor, doc, conf)
-    } else {
-        take_plain(alloc, cursor, number)
+    match number {
+        1 => add_span(alloc, cursor),
+        2 => retype_span(alloc, cursor),
+        3 => move_span(alloc, cursor),
+        4 => add_event(alloc, cursor),
+        5 => add_arg(alloc, cursor),
+        6 => remove_arg(alloc, cursor),
+        7 => add_relation(alloc, cursor),
+        8 => set_attribute(alloc, cursor),
+        9 => clear_attribute(cursor),
+        10 => equate(alloc, cursor),
+        11 => unequate(alloc, cursor),
+        12 => set_note(alloc, cursor),
+        13 => set_reference(alloc, cursor),
+        14 => delete(cursor),
+        15 => purge(cursor),
+        _ => Ok(None),
     }
-}
-
-/// Takes a command behind its number.
-#[tactic(auto, unfolding(crate::specs::CommandReading::command_at))]
-fn take_command(
-    alloc: Global,
-    cursor: &mut Cursor<'_>,
-    doc: &Doc,
-    conf: &Conf,
-) -> Result<Option<Command>, Memory>
-    ensures { ReadsCommand (command_at conf.now doc.now) cursor.old cursor.new result }
-{
-    match cursor.take_u8() {
-        Some(number) => take_fields(alloc, cursor, number, doc, conf),
-        None => Ok(None),
-    }
-}
-
-/// Takes so many commands.
-fn take_commands(
-    alloc: Global,
-    cursor: &mut Cursor<'_>,
-    count: u32,
-    doc: &Doc,
-    conf: &Conf,
-) -> Result<Option<Vec<Command>>, Memory>
-    ensures { IfOk result (λ found. list_on (command_at conf.now doc.now) count cursor.old ≡ option_map (λ commands. (commands.items, cursor.new)) found) }
-{
-    let mut commands = Vec::new(alloc);
-    for _ in 0..count {
-        match take_command(alloc, cursor, doc, conf)? {
-            Some(command) => commands.push(command)?,
-            None => return Ok(None),
-        }
-    }
-    Ok(Some(commands))
-}
-
-/// Takes commands behind their number.
-#[tactic(auto, unfolding(crate::specs::CommandReading::list_at))]
-fn take_script(
-    alloc: Global,
-    cursor: &mut Cursor<'_>,
-    doc: &Doc,
-    conf: &Conf,
-) -> Result<Option<Script>, Memory>
-    ensures { IfOk result (λ found. list_at (command_at conf.now doc.now) cursor.old ≡ option_map (λ script. (script, cursor.new)) found) }
-{
-    let Some(count) = cursor.take_u32() else {
-        return Ok(None);
-    };
-    match take_commands(alloc, cursor, count, doc, conf)? {
-        Some(commands) => Ok(Some(Script::from_vec(alloc, commands))),
-        None => Ok(None),
-    }
-}
-
-/// Takes two scripts.
-#[tactic(auto, unfolding(crate::specs::CommandReading::scripts_at))]
-fn take_scripts(
-    alloc: Global,
-    cursor: &mut Cursor<'_>,
-    doc: &Doc,
-    conf: &Conf,
-) -> Result<Option<Scripts>, Memory>
-    ensures { IfOk result (λ found. scripts_at conf.now doc.now cursor.old ≡ option_map (λ scripts. ((scripts.done, scripts.undone), cursor.new)) found) }
-{
-    let Some(done) = take_script(alloc, cursor, doc, conf)? else {
-        return Ok(None);
-    };
-    match take_script(alloc, cursor, doc, conf)? {
-        Some(undone) => Ok(Some(Scripts { done, undone })),
-        None => Ok(None),
-    }
-}
-
-/// The two scripts that bytes are.
-#[tactic(auto, unfolding(crate::specs::CommandReading::scripts_of))]
-fn scripts_in(
-    alloc: Global,
-    bytes: &[u8],
-    doc: &Doc,
-    conf: &Conf,
-) -> Result<Option<Scripts>, Memory>
-    ensures { IfOk result (λ found. scripts_of conf.now doc.now bytes.now ≡ option_map (λ scripts. (scripts.done, scripts.undone)) found) }
-{
-    let mut cursor = Cursor::new(bytes);
-    let Some(scripts) = take_scripts(alloc, &mut cursor, doc, conf)? else {
-        return Ok(None);
-    };
-    if cursor.is_at_end() {
-        Ok(Some(scripts))
-    } else {
-        Ok(None)
-    }
-}
-
-/// Reads the two scripts of an entry, those done and those undone, for the configuration and the text that they
-/// were written for. None where the bytes are those of no two scripts; a layer is loaded only from the lines that
-/// it is written as. Cost: the number of the bytes, and what `read_ann` and `ann_bytes` say of the layers.
-pub fn read_scripts(
-    alloc: Global,
-    bytes: &[u8],
-    doc: &Doc,
-    conf: &Conf,
-) -> Result<Option<Scripts>, Memory>
-    // What is read are two scripts of which these are the bytes.
-    ensures found { IfOk result (λ found. IfSome found (λ scripts. AreScripts conf.now doc.now scripts.done scripts.undone × (scripts_bytes conf.now doc.now scripts.done scripts.undone ≡ bytes.now))) }
-    // Nothing is read only where the bytes are those of no two scripts.
-    ensures none { IfOk result (λ found. IfNone found ((done undone : List Command) → AreScripts conf.now doc.now done undone → scripts_bytes conf.now doc.now done undone ≡ bytes.now → ⊥)) }
-    // It is what reading from left to right finds.
-    ensures exact { IfOk result (λ found. scripts_of conf.now doc.now bytes.now ≡ option_map (λ scripts. (scripts.done, scripts.undone)) found) }
-{
-    scripts_in(alloc, bytes, doc, conf)
 }

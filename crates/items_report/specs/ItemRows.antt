@@ -1,7 +1,7 @@
 -- A row for an item of a snapshot: its name, its line, who holds it, and whether it is in.
 use Rattle.std.specs.Prelude.{ℕ, ◌+◌, ◌/◌, ◌%◌, ◌==◌, Bool, true, false, List, [], ◌∷◌, ◌++◌, length, take, drop, flat_map, codes, bytes_eq, get_or, Option, Some, None, if◌then◌else◌}
 use Rattle.std.specs.List.{position_or_len, slice_split}
-use Rattle.layer_rules.specs.NamedByRule.{id_text}
+use Rattle.layer_rules.specs.CarriedByRule.{id_text}
 use Rattle.unanimous_merge.specs.declared.item.Item.{Item}
 use Rattle.unanimous_merge.specs.declared.item.ItemId.{ItemId}
 use Rattle.curator_decisions.specs.declared.verdict.Verdict.{Verdict}

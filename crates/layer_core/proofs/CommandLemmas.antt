@@ -5,11 +5,12 @@ use Rattle.conf_model.specs.Configurations.{Configuration}
 use Rattle.layer_model.specs.declared.rule.Rule.{Rule}
 use Rattle.layer_model.specs.declared.flaw.Flaw.{Flaw}
 use Rattle.layer_model.specs.Annotations.{Annotations}
-use Rattle.layer_model.specs.RuleNumbers.{number_of}
+use Rattle.layer_model.specs.Rules.{number_of}
 use Rattle.layer_core.specs.declared.command.Command.{Command}
 use Rattle.layer_rules.specs.WellFormed.{IsWellFormed, least_flaw}
 use Rattle.layer_core.specs.MadeLayers.{Draft, draft}
-use Rattle.layer_core.specs.Commands.{lower_rule, own_rule, draft_rule, refusal, applied_of, answer_of, apply, Applied}
+use Rattle.layer_core.specs.Commands.{lower_rule, draft_rule, refusal, applied_of, answer_of, apply, Applied}
+use Rattle.layer_core.specs.OwnRules.{own_rule}
 use Rattle.layer_rules.proofs.LawLemmas.{unflawed_is_well_formed}
 
 some_none : {X : Type 0} {x : X} → Some x ≡ None → ⊥

@@ -10,7 +10,7 @@ use Rattle.layer_model.specs.declared.flaw.Flaw.{Flaw}
 use Rattle.layer_model.specs.declared.flaw.FlawPlace.{FlawPlace}
 use Rattle.layer_model.specs.Annotations.{Annotations}
 use Rattle.layer_model.specs.Layers.{IsLayer}
-use Rattle.layer_model.specs.RuleNumbers.{number_of}
+use Rattle.layer_model.specs.Rules.{number_of}
 use Rattle.layer_rules.specs.FlawPlaces.{first_place, first_rule, places}
 use Rattle.layer_rules.specs.WellFormed.{least_flaw}
 use Rattle.layer_rules.specs.LowestFlaw.{HasGoodSpans, flaw_at, later_rules, single_rules}

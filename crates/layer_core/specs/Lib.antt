@@ -1,4 +1,5 @@
 pub mod Commands
+pub mod OwnRules
 pub mod MadeLayers
 pub mod CommandRules
 pub mod Cascade

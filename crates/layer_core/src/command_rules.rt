@@ -5,7 +5,7 @@ ghost use Rattle.mark_base.specs.declared.fragments.Frag.{Frag};
 ghost use Rattle.conf_model.specs.Lookups.{relation_named};
 ghost use Rattle.layer_core.specs.declared.command.Command.{Command};
 ghost use Rattle.layer_model.specs.declared.rule.Rule.{Rule};
-ghost use Rattle.layer_core.specs.Commands.{first_broken, frags_rule, moved_rule, new_used_up, own_rules, value_unknown};
+ghost use Rattle.layer_core.specs.OwnRules.{first_broken, frags_rule, moved_rule, new_used_up, own_rules, value_unknown};
 ghost use Rattle.layer_core.specs.CommandRules.{event_type, has_value, is_attribute_letter, is_event_letter, is_in_class, is_span_letter, members_refused, no_such_argument, not_in_class, of_letters, roles_undeclared, target_refused, used_up, value_at};
 ghost use Rattle.layer_rules.specs.LayerRules.{is_arg, is_id};
 ghost use Rattle.layer_rules.specs.MarkRules.{argument, first_missing, first_unwanted, trigger, where_so};

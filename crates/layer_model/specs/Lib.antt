@@ -5,7 +5,6 @@ pub mod IdSets
 pub mod Layers
 pub mod LayerIds
 pub mod Numbers
-pub mod RuleNames
-pub mod RuleNumbers
+pub mod Rules
 pub mod Snapshots
 pub mod Span

@@ -1,7 +1,6 @@
 //! The rules that a command or a layer may break.
 ghost use Rattle.std.specs.Prelude.{◌≡◌};
-ghost use Rattle.layer_model.specs.RuleNames.{rule_name};
-ghost use Rattle.layer_model.specs.RuleNumbers.{number_of};
+ghost use Rattle.layer_model.specs.Rules.{rule_name, number_of};
 
 use mark_base::{AnnId, Kind, RelId, TypeId};
 

@@ -7,7 +7,7 @@ use Rattle.layer_model.specs.declared.class.Class.{Class}
 use Rattle.layer_model.specs.declared.rule.Rule.{Rule}
 use Rattle.layer_model.specs.declared.flaw.Flaw.{Flaw}
 use Rattle.layer_model.specs.declared.flaw.FlawPlace.TheVariants as at
-use Rattle.layer_model.specs.RuleNumbers.{number_of}
+use Rattle.layer_model.specs.Rules.{number_of}
 use Rattle.mark_base.specs.ReadIds.{id_at}
 use Rattle.layer_rules.specs.LowestFlaw.{lower_flaw, lowest_of, lowest_from, flaw_at}
 

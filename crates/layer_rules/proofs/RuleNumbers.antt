@@ -14,7 +14,7 @@ use Rattle.layer_model.specs.declared.rule.Rule.TheVariants.{UnknownType, NotFor
 use Rattle.layer_model.specs.declared.rule.RoleAt.TheVariants as role
 use Rattle.layer_model.specs.declared.flaw.FlawPlace.{FlawPlace}
 use Rattle.layer_model.specs.declared.flaw.FlawPlace.TheVariants as at
-use Rattle.layer_model.specs.RuleNumbers.{number_of}
+use Rattle.layer_model.specs.Rules.{number_of}
 use Rattle.layer_model.specs.Annotations.{Annotations}
 use Rattle.layer_model.specs.Layers.{mark_at, has}
 use Rattle.layer_rules.specs.Targets.{is_event_type, type_of, target_of}

@@ -4,7 +4,7 @@ pub mod EventKeys
 pub mod Repeats
 pub mod LayerRules
 pub mod FlawPlaces
-pub mod NamedByRule
+pub mod CarriedByRule
 pub mod MarkRules
 pub mod AttributeValues
 pub mod BadTexts

@@ -23,7 +23,7 @@ mod layer_check;
 mod layer_full;
 mod lowest_flaw;
 mod mark_rules;
-mod named_by_rules;
+mod carried_by_rules;
 mod overlaps;
 mod repeats;
 mod rules_by_kind;
@@ -45,7 +45,7 @@ pub use crate::mark_rules::{
     LONGEST_REACH, barred_class, barred_type, last_end, missing, missing_ids, unwanted,
     unwanted_members, where_so,
 };
-pub use crate::named_by_rules::{id_text, named_by_rule};
+pub use crate::carried_by_rules::{id_text, carried_by_rule};
 pub use crate::targets::{
     is_argument, is_attribute_target, is_event_type, is_id, is_member, is_trigger, target_of,
 };

@@ -7,14 +7,14 @@ use Rattle.conf_model.specs.declared.conf_fault.ConfWhat.{ConfWhat}
 use Rattle.conf_model.specs.ConfFaultNames.{conf_name}
 use Rattle.ann_reader.specs.declared.ann_fault.AnnWhat.{AnnWhat}
 use Rattle.ann_reader.specs.declared.ann_fault.AnnWhat.TheVariants as ann
-use Rattle.layer_model.specs.RuleNames.{rule_name}
+use Rattle.layer_model.specs.Rules.{rule_name}
 use Rattle.token_columns.specs.declared.column_fault.ColumnWhat.{ColumnWhat}
 use Rattle.token_columns.specs.declared.column_fault.ColumnWhat.TheVariants as columns
 use Rattle.token_columns.specs.declared.column_fault.ColumnOut.{ColumnOut}
 use Rattle.token_columns.specs.declared.column_fault.ColumnOut.TheVariants as out
 use Rattle.token_columns.specs.FaultNames.{out_name}
 use Rattle.mark_base.specs.declared.ann_id.AnnId.{AnnId}
-use Rattle.layer_rules.specs.NamedByRule.{id_text}
+use Rattle.layer_rules.specs.CarriedByRule.{id_text}
 use Rattle.project_machine.specs.declared.roster_fault.RosterFault.{RosterFault}
 use Rattle.project_machine.specs.declared.roster_fault.RosterFault.TheVariants as people
 use Rattle.roster_file.specs.declared.roster_read.RosterRead.{RosterRead}

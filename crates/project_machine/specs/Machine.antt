@@ -21,7 +21,7 @@ use Rattle.project_machine.specs.declared.book_refusal.Policy.TheVariants as pol
 use Rattle.project_machine.specs.declared.doc_line.DocLine.{DocLine}
 use Rattle.unanimous_merge.specs.declared.item.ItemId.{ItemId}
 use Rattle.curator_decisions.specs.declared.verdict.Verdict.{Verdict}
-use Rattle.layer_rules.specs.NamedByRule.{id_text, named_by_rule}
+use Rattle.layer_rules.specs.CarriedByRule.{id_text, carried_by_rule}
 use Rattle.project_machine.specs.ProjectState.{Row, Document, Snapshot, ProjectState, annotators, is_annotator, is_curator, is_there, number_of, document, row_in, no_snapshot, finished_rows, is_untaken, snapshot, text_of, is_holder, holder_of, holder_name, item_in}
 use Rattle.project_machine.specs.Requests.{Asked, ReadConf, ListDocs, ReadText, AddText, Checkout, TakeOver, Commit, Park, Finish, ReadLayer, Reopen, Ignore, Readmit, Snap, TakeSnapshot, Decide, Undecide, ReadPairs, ReadAlpha, Out, View, Answered, Conf, Docs, Text, Added, HandedOut, Committed, Parked, Finished, Layer, Ignored, Snapped, Taken, Decided, Pairs, Alpha, Refused, Happened, TextAdded, CheckedOut, TakenOver, LayerCommitted, LayerParked, LayerFinished, LayerReopened, LayerIgnored, LayerReadmitted, SnapshotTaken, ItemDecided, ItemUndecided}
 use Rattle.project_machine.specs.Entries.{entry_of}
@@ -160,7 +160,7 @@ item_text shot item = holder_name shot item.holder ++ (codes "/" ++ id_text item
 -- what a fault of a decision names: the item that is needed, or what a rule names
 abbrev pub fault_text : Configuration → Snapshot → DecisionFault → List ℕ
 fault_text conf shot (fault.NeedsItem item) = item_text shot item
-fault_text conf shot (fault.Broken broken) = unwrap_or (named_by_rule conf broken) []
+fault_text conf shot (fault.Broken broken) = unwrap_or (carried_by_rule conf broken) []
 fault_text conf shot other = []
 
 -- the snapshot on which a request asks for a decision
@@ -173,7 +173,7 @@ decided_snapshot s asked = no_snapshot
 abbrev pub of_text : ProjectState → Asked → BookRefusal → List ℕ
 of_text s asked (no.NotAllowed wanted) = policy_text wanted
 of_text s asked (no.TooFewFinished finished) = decimal finished
-of_text s asked (no.Broken broken) = unwrap_or (named_by_rule s.conf broken) []
+of_text s asked (no.Broken broken) = unwrap_or (carried_by_rule s.conf broken) []
 of_text s asked (no.Decision decision) = fault_text s.conf (decided_snapshot s asked) decision
 of_text s asked (no.EntryTooLong bytes) = decimal bytes
 of_text s asked refusal = []

@@ -2,8 +2,7 @@
 use Rattle.std.specs.Prelude.{ℕ, ◌==◌, List, ◌++◌, length, nat_lt, if◌then◌else◌, Option, Some, None, codes}
 use Rattle.json.specs.Print.{quoted}
 use Rattle.layer_model.specs.declared.rule.Rule.{Rule}
-use Rattle.layer_model.specs.RuleNames.{rule_name}
-use Rattle.layer_model.specs.RuleNumbers.{number_of}
+use Rattle.layer_model.specs.Rules.{rule_name, number_of}
 use Rattle.curator_decisions.specs.declared.decision_fault.DecisionFault.{DecisionFault}
 use Rattle.curator_decisions.specs.declared.decision_fault.DecisionFault.TheVariants as fault
 use Rattle.project_machine.specs.declared.book_refusal.BookRefusal.{BookRefusal}

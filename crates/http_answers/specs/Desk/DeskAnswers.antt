@@ -8,7 +8,7 @@ use Rattle.http_wire.specs.Answers.{refusal}
 use Rattle.layer_model.specs.declared.rule.Rule.{Rule}
 use Rattle.layer_core.specs.declared.command.Command.{Command}
 use Rattle.layer_core.specs.declared.command.Command.TheVariants.{Load}
-use Rattle.layer_rules.specs.NamedByRule.{id_text}
+use Rattle.layer_rules.specs.CarriedByRule.{id_text}
 use Rattle.layer_undo.specs.Desks.{DeskState, Performed, performed, after_undo, after_redo, layer_of}
 use Rattle.command_json.specs.Bodies.{command_of}
 use Rattle.ann_reader.specs.Lines.{lines_of}

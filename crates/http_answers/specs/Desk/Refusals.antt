@@ -4,8 +4,8 @@ use Rattle.json.specs.Print.{quoted}
 use Rattle.serde_json.specs.Data.{Data, string, number, unsigned, object, member, no_members}
 use Rattle.conf_model.specs.Configurations.{Configuration}
 use Rattle.layer_model.specs.declared.rule.Rule.{Rule}
-use Rattle.layer_model.specs.RuleNames.{rule_name}
-use Rattle.layer_rules.specs.NamedByRule.{named_by_rule}
+use Rattle.layer_model.specs.Rules.{rule_name}
+use Rattle.layer_rules.specs.CarriedByRule.{carried_by_rule}
 use Rattle.ann_reader.specs.declared.ann_fault.AnnWhat.{AnnWhat}
 use Rattle.ann_reader.specs.declared.ann_fault.AnnWhat.TheVariants as ann
 use Rattle.http_wire.specs.declared.answer.Answer.{Answer}
@@ -26,7 +26,7 @@ refusal_of status name (Some named) = record {
 
 -- a rule is broken
 abbrev pub rule_answer : Configuration → Rule → Answer
-rule_answer conf broken = refusal_of (rule_status broken) (rule_name broken) (named_by_rule conf broken)
+rule_answer conf broken = refusal_of (rule_status broken) (rule_name broken) (carried_by_rule conf broken)
 
 -- the body of a refusal of a file, with the number of a line, from 1
 abbrev pub line_refusal : ℕ → List ℕ → Option (List ℕ) → Answer
@@ -53,4 +53,4 @@ fault_answer conf line ann.BadLine = line_refusal line (codes "BadLine") None
 fault_answer conf line ann.BadId = line_refusal line (codes "BadId") None
 fault_answer conf line ann.IdTwice = line_refusal line (codes "IdTwice") None
 fault_answer conf line (ann.WrongText place) = line_refusal line (codes "WrongText") (Some (decimal place))
-fault_answer conf line (ann.Broken broken) = line_refusal line (rule_name broken) (named_by_rule conf broken)
+fault_answer conf line (ann.Broken broken) = line_refusal line (rule_name broken) (carried_by_rule conf broken)

@@ -3,8 +3,8 @@ ghost use Rattle.std.specs.Prelude.{◌≡◌, ◌++◌, ◌∷◌, [], codes, d
 ghost use Rattle.json.specs.Print.{quoted};
 ghost use Rattle.http.specs.StatusCode.{IsStatusCode};
 ghost use Rattle.serde_json.specs.View.{view};
-ghost use Rattle.layer_model.specs.RuleNames.{rule_name};
-ghost use Rattle.layer_rules.specs.NamedByRule.{named_by_rule};
+ghost use Rattle.layer_model.specs.Rules.{rule_name};
+ghost use Rattle.layer_rules.specs.CarriedByRule.{carried_by_rule};
 ghost use Rattle.http_answers.specs.Desk.Refusals.{fault_answer, line_members, line_refusal, refusal_of, rule_answer};
 
 use crate::answer_bodies::rule_status;
@@ -12,7 +12,7 @@ use ann_reader::AnnWhat;
 use conf_model::Conf;
 use http_wire::{Answer, Media};
 use layer_model::Rule;
-use layer_rules::named_by_rule;
+use layer_rules::carried_by_rule;
 use mark_base::{Bytes, Memory, Text};
 use serde_json::{Value, json};
 use std::alloc::Global;
@@ -59,7 +59,7 @@ pub(crate) fn rule_answer(alloc: Global, conf: &Conf, rule: Rule) -> Result<Answ
     ensures answer { IfOk result (λ answer. answer ≡ rule_answer conf.now rule) }
     ensures status { IfOk result (λ answer. IsStatusCode answer.status) }
 {
-    let named = named_by_rule(alloc, conf, rule)?;
+    let named = carried_by_rule(alloc, conf, rule)?;
     refusal_of(alloc, rule_status(rule), rule.name(), &named)
 }
 
@@ -114,9 +114,9 @@ fn wrong_text(alloc: Global, line: u32, place: u32) -> Result<Answer, Memory>
 
 /// A line breaks a rule.
 fn broken_line(alloc: Global, conf: &Conf, line: u32, rule: Rule) -> Result<Answer, Memory>
-    ensures { IfOk result (λ answer. answer ≡ line_refusal line (rule_name rule) (named_by_rule conf.now rule)) }
+    ensures { IfOk result (λ answer. answer ≡ line_refusal line (rule_name rule) (carried_by_rule conf.now rule)) }
 {
-    let named = named_by_rule(alloc, conf, rule)?;
+    let named = carried_by_rule(alloc, conf, rule)?;
     line_refusal(alloc, line, rule.name(), &named)
 }
 

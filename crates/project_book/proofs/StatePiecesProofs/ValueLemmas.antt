@@ -20,7 +20,7 @@ use Rattle.ann_writer.specs.AnnOf.{ann_of}
 use Rattle.unanimous_merge.specs.declared.item.ItemId.{ItemId}
 use Rattle.curator_decisions.specs.declared.verdict.Verdict.{Verdict}
 use Rattle.curator_decisions.specs.declared.verdict.Verdict.TheVariants.{Accept, Reject}
-use Rattle.command_bytes.specs.declared.read_commands.Scripts.{Scripts}
+use Rattle.command_bytes.specs.declared.script_reading.Scripts.{Scripts}
 use Rattle.command_bytes.specs.CommandBytes.{list_bytes, scripts_bytes}
 use Rattle.command_bytes.specs.WritableCommands.{CanBeWritten, IsReadAgain}
 use Rattle.command_bytes.specs.CommandReading.{layer_in, scripts_of}

@@ -16,7 +16,7 @@ use Rattle.ann_reader.specs.AnnFiles.{IsAnn}
 use Rattle.ann_reader.specs.LineFaults.{Fault}
 use Rattle.ann_writer.specs.AnnOf.{ann_of}
 use Rattle.ann_writer.specs.Writable.{IsOfProgram}
-use Rattle.command_bytes.specs.declared.read_commands.Scripts.{Scripts}
+use Rattle.command_bytes.specs.declared.script_reading.Scripts.{Scripts}
 use Rattle.command_bytes.specs.CommandBytes.{command_bytes, script_bytes, scripts_bytes}
 use Rattle.command_bytes.specs.WritableCommands.{CanBeWritten, LoadsAgain, IsReadAgain, IsScript, AreScripts}
 use Rattle.command_bytes.specs.CommandReading.{scripts_of}

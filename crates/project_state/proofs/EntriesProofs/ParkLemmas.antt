@@ -2,7 +2,7 @@
 use Rattle.std.proofs.Common.{◌≡◌, ℕ, List, Option, Some, ap₂, subst}
 use Rattle.conf_model.specs.Configurations.{Configuration}
 use Rattle.layer_core.specs.declared.command.Command.{Command}
-use Rattle.command_bytes.specs.declared.read_commands.Scripts.{Scripts}
+use Rattle.command_bytes.specs.declared.script_reading.Scripts.{Scripts}
 use Rattle.project_machine.specs.Requests.{Asked, Park}
 use Rattle.project_state.specs.Entries.Reading.{ReadsScripts}
 

@@ -9,7 +9,7 @@ use Rattle.layer_model.specs.Annotations.{Annotations}
 use Rattle.layer_core.specs.declared.command.Command.{Command}
 use Rattle.layer_rules.specs.WellFormed.{IsWellFormed}
 use Rattle.ann_writer.specs.AnnOf.{ann_of}
-use Rattle.command_bytes.specs.declared.read_commands.Scripts.{Scripts}
+use Rattle.command_bytes.specs.declared.script_reading.Scripts.{Scripts}
 use Rattle.command_bytes.specs.CommandBytes.{scripts_bytes}
 use Rattle.command_bytes.specs.WritableCommands.{CanBeWritten}
 use Rattle.command_bytes.specs.CommandReading.{id_of}

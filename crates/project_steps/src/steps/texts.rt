@@ -1,6 +1,6 @@
 //! What a refusal names.
 ghost use Rattle.std.specs.Prelude.{◌≡◌, ◌++◌, ◌-◌, [], IfOk, codes, decimal, get_or, unwrap_or};
-ghost use Rattle.layer_rules.specs.NamedByRule.{id_text, named_by_rule};
+ghost use Rattle.layer_rules.specs.CarriedByRule.{id_text, carried_by_rule};
 ghost use Rattle.layer_model.specs.Annotations.{no_marks};
 ghost use Rattle.project_machine.specs.Machine.{fault_text, of_text, policy_text};
 ghost use Rattle.project_machine.specs.ProjectState.{no_snapshot, snapshot};
@@ -11,7 +11,7 @@ ghost use Rattle.project_steps.specs.Steps.Judging.{decided_number, snapshot_dec
 use conf_model::Conf;
 use curator_decisions::DecisionFault;
 use layer_model::Rule;
-use layer_rules::{id_text, named_by_rule};
+use layer_rules::{id_text, carried_by_rule};
 use mark_base::{Memory, Text};
 use project_state::{BookRefusal, BookState, Policy, Request, StoredSnapshot};
 use std::alloc::Global;
@@ -46,9 +46,9 @@ fn no_text(alloc: Global) -> Text
 
 /// What a rule names, or nothing.
 fn rule_text(alloc: Global, conf: &Conf, rule: Rule) -> Result<Text, Memory>
-    ensures { IfOk result (λ text. text ≡ unwrap_or (named_by_rule conf.now rule) []) }
+    ensures { IfOk result (λ text. text ≡ unwrap_or (carried_by_rule conf.now rule) []) }
 {
-    match named_by_rule(alloc, conf, rule)? {
+    match carried_by_rule(alloc, conf, rule)? {
         Some(text) => Ok(text),
         None => Ok(no_text(alloc)),
     }

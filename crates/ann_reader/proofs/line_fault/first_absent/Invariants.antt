@@ -1,8 +1,8 @@
 use Rattle.std.proofs.Common.{◌≡◌, drop}
 use Rattle.std.specs.Prelude.{map}
 use Rattle.ann_reader.specs.LineFaults.{first_absent}
-use Rattle.ann_reader.specs.FormShows.{seen_reference}
+use Rattle.ann_reader.specs.FormShows.{seen_id_word}
 use Rattle.ann_reader.proofs.line_fault.first_absent.Given as goal
 
-abbrev pub invariant-loop-reference : goal.invariant-loop-reference
-invariant-loop-reference l = first_absent l.known (map seen_reference (drop l.reference-index l.named)) ≡ first_absent l.known (map seen_reference l.named)
+abbrev pub invariant-loop-id_word : goal.invariant-loop-id_word
+invariant-loop-id_word l = first_absent l.known (map seen_id_word (drop l.id_word-index l.named)) ≡ first_absent l.known (map seen_id_word l.named)

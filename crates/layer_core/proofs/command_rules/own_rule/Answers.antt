@@ -1,5 +1,5 @@
 use Rattle.layer_core.specs.declared.command.Command.TheVariants as ask
-use Rattle.layer_core.specs.Commands.{first_broken, own_rules}
+use Rattle.layer_core.specs.OwnRules.{first_broken, own_rules}
 use Rattle.layer_core.proofs.AnyLemmas.{at_one, at_two}
 use Rattle.layer_core.proofs.command_rules.own_rule.Goals as goal
 

@@ -1,5 +1,6 @@
 use Rattle.std.proofs.Common.{◌≡◌, length, ◌∙◌, ap, option_and_then, rules}
-use Rattle.layer_core.specs.Commands.{draft_rule, lower_rule, own_rule}
+use Rattle.layer_core.specs.Commands.{draft_rule, lower_rule}
+use Rattle.layer_core.specs.OwnRules.{own_rule}
 use Rattle.layer_core.proofs.work.broken_rule.Goals as goal
 
 pub returns : goal.returns

@@ -1,6 +1,6 @@
 use Rattle.std.proofs.Common.{arith}
 use Rattle.command_bytes.proofs.ScriptsReadLemmas.{read_found, read_none}
-use Rattle.command_bytes.proofs.read_commands.read_scripts.Goals as goal
+use Rattle.command_bytes.proofs.script_reading.read_scripts.Goals as goal
 
 pub returns-clause-found : goal.returns-clause-found
 returns-clause-found c = read_found c.args.conf.now c.args.doc.now c.args.bytes.now c.scripts_in.result (λ i. omega (arith, c.type_inv.bytes i)) c.scripts_in.ensures

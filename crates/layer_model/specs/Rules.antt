@@ -1,4 +1,4 @@
--- How the rules that a command or a layer may break are named.
+-- The rules that a command or a layer may break: how they are named, and the order in which they are tested.
 use Rattle.std.specs.Prelude.{ℕ, List, codes}
 use Rattle.layer_model.specs.declared.rule.Rule.{Rule}
 use Rattle.layer_model.specs.declared.rule.Rule.TheVariants as rule
@@ -32,3 +32,33 @@ rule_name (rule.TooFew event role) = codes "TooFew"
 rule_name rule.DeskFull = codes "DeskFull"
 rule_name rule.NothingToUndo = codes "NothingToUndo"
 rule_name rule.NothingToRedo = codes "NothingToRedo"
+
+-- the place of a rule in the order in which they are tested, from 1
+abbrev pub number_of : Rule → ℕ
+number_of rule.UnknownType = 1
+number_of rule.NotForUse = 2
+number_of rule.BadFragments = 3
+number_of rule.OutOfText = 4
+number_of rule.SpanTooLong = 5
+number_of (rule.NoSuch id) = 6
+number_of (rule.WrongKind id) = 7
+number_of rule.UnknownRole = 8
+number_of (rule.ArgumentType role) = 9
+number_of (rule.TooMany role) = 10
+number_of rule.NoSuchArgument = 11
+number_of rule.UnknownValue = 12
+number_of rule.TooDeep = 13
+number_of (rule.SameSpan id) = 14
+number_of (rule.SameEvent id) = 15
+number_of (rule.SameRelation id) = 16
+number_of (rule.AttributeThere id) = 17
+number_of rule.EquivMembers = 18
+number_of (rule.OverlapRefused id) = 19
+number_of (rule.InUse id) = 20
+number_of rule.BadText = 21
+number_of (rule.LayerFull kind) = 22
+number_of (rule.IdsUsedUp kind) = 23
+number_of (rule.TooFew event role) = 24
+number_of rule.DeskFull = 25
+number_of rule.NothingToUndo = 26
+number_of rule.NothingToRedo = 27

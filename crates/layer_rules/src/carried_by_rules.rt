@@ -1,6 +1,6 @@
 //! What a broken rule names, as it is shown.
 ghost use Rattle.std.specs.Prelude.{◌≡◌, ◌++◌, IfOk, codes};
-ghost use Rattle.layer_rules.specs.NamedByRule.{id_text, named_by_rule, role_text};
+ghost use Rattle.layer_rules.specs.CarriedByRule.{id_text, carried_by_rule, role_text};
 
 use conf_model::Conf;
 use layer_model::{RoleAt, Rule};
@@ -45,8 +45,8 @@ fn event_role(alloc: Global, conf: &Conf, event: AnnId, role: RoleAt) -> Result<
 }
 
 /// What a rule names, as it is shown: an ID, a role by its name, an event and a role of it, or a letter.
-pub fn named_by_rule(alloc: Global, conf: &Conf, rule: Rule) -> Result<Option<Text>, Memory>
-    ensures { IfOk result (λ named. named ≡ named_by_rule conf.now rule) }
+pub fn carried_by_rule(alloc: Global, conf: &Conf, rule: Rule) -> Result<Option<Text>, Memory>
+    ensures { IfOk result (λ named. named ≡ carried_by_rule conf.now rule) }
 {
     let named = match rule {
         Rule::NoSuch(id)

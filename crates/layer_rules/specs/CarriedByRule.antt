@@ -20,18 +20,18 @@ role_text conf (role.Relation relation second) = unwrap_or (relation_role conf r
 role_text conf role.Attribute = codes "Arg"
 
 -- what a rule names: an annotation, a role, an event and a role of it, or a letter
-abbrev pub named_by_rule : Configuration → Rule → Option (List ℕ)
-named_by_rule conf (rule.NoSuch id) = Some (id_text id)
-named_by_rule conf (rule.WrongKind id) = Some (id_text id)
-named_by_rule conf (rule.ArgumentType role) = Some (role_text conf role)
-named_by_rule conf (rule.TooMany role) = Some (role_text conf role)
-named_by_rule conf (rule.SameSpan id) = Some (id_text id)
-named_by_rule conf (rule.SameEvent id) = Some (id_text id)
-named_by_rule conf (rule.SameRelation id) = Some (id_text id)
-named_by_rule conf (rule.AttributeThere id) = Some (id_text id)
-named_by_rule conf (rule.OverlapRefused id) = Some (id_text id)
-named_by_rule conf (rule.InUse id) = Some (id_text id)
-named_by_rule conf (rule.LayerFull kind) = Some (letter_of kind ∷ [])
-named_by_rule conf (rule.IdsUsedUp kind) = Some (letter_of kind ∷ [])
-named_by_rule conf (rule.TooFew event role) = Some (id_text event ++ (codes " " ++ role_text conf role))
-named_by_rule conf broken = None
+abbrev pub carried_by_rule : Configuration → Rule → Option (List ℕ)
+carried_by_rule conf (rule.NoSuch id) = Some (id_text id)
+carried_by_rule conf (rule.WrongKind id) = Some (id_text id)
+carried_by_rule conf (rule.ArgumentType role) = Some (role_text conf role)
+carried_by_rule conf (rule.TooMany role) = Some (role_text conf role)
+carried_by_rule conf (rule.SameSpan id) = Some (id_text id)
+carried_by_rule conf (rule.SameEvent id) = Some (id_text id)
+carried_by_rule conf (rule.SameRelation id) = Some (id_text id)
+carried_by_rule conf (rule.AttributeThere id) = Some (id_text id)
+carried_by_rule conf (rule.OverlapRefused id) = Some (id_text id)
+carried_by_rule conf (rule.InUse id) = Some (id_text id)
+carried_by_rule conf (rule.LayerFull kind) = Some (letter_of kind ∷ [])
+carried_by_rule conf (rule.IdsUsedUp kind) = Some (letter_of kind ∷ [])
+carried_by_rule conf (rule.TooFew event role) = Some (id_text event ++ (codes " " ++ role_text conf role))
+carried_by_rule conf broken = None

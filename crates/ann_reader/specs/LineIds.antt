@@ -18,24 +18,24 @@ may_stand Attributed kind = is_attributed_letter kind
 may_stand AnyButNotes kind = is_noted_letter kind
 
 -- a word in the place of an ID, with the letters that may stand there
-pub record Reference : Type 0 where
+pub record IdWord : Type 0 where
   pub letters : Letters
   pub word : List ℕ
 
 -- a word where only these letters may stand
-abbrev pub of_letters : Letters → List ℕ → Reference
+abbrev pub of_letters : Letters → List ℕ → IdWord
 of_letters letters word = record { letters = letters; word = word }
 
 -- what a line names: trigger, arguments, target or members
-abbrev pub references : Form → List Reference
-references BadForm = []
-references (TextForm _ _ _ _) = []
-references (EventForm _ _ trigger pairs) = of_letters Spans trigger ∷ map (λ pair. of_letters SpansOrEvents pair.target) pairs
-references (RelationForm _ _ a b) = of_letters SpansOrEvents a.target ∷ of_letters SpansOrEvents b.target ∷ []
-references (AttributeForm _ _ target _) = of_letters Attributed target ∷ []
-references (ClassForm _ ids) = map (of_letters Spans) ids
-references (NormalForm _ target _ _ _) = of_letters SpansOrEvents target ∷ []
-references (NoteForm _ _ target _) = of_letters AnyButNotes target ∷ []
+abbrev pub id_words : Form → List IdWord
+id_words BadForm = []
+id_words (TextForm _ _ _ _) = []
+id_words (EventForm _ _ trigger pairs) = of_letters Spans trigger ∷ map (λ pair. of_letters SpansOrEvents pair.target) pairs
+id_words (RelationForm _ _ a b) = of_letters SpansOrEvents a.target ∷ of_letters SpansOrEvents b.target ∷ []
+id_words (AttributeForm _ _ target _) = of_letters Attributed target ∷ []
+id_words (ClassForm _ ids) = map (of_letters Spans) ids
+id_words (NormalForm _ target _ _ _) = of_letters SpansOrEvents target ∷ []
+id_words (NoteForm _ _ target _) = of_letters AnyButNotes target ∷ []
 
 -- the first field of a line that has an ID of its own
 abbrev pub own_word : Form → Option (List ℕ)
@@ -53,12 +53,12 @@ abbrev pub own_id : Form → Option AnnId
 own_id form = option_and_then id_read (own_word form)
 
 -- the word begins with none of the seven letters
-abbrev pub has_no_letter : Reference → Bool
-has_no_letter reference = is_none (kind_read (slice_index reference.word 0))
+abbrev pub has_no_letter : IdWord → Bool
+has_no_letter id_word = is_none (kind_read (slice_index id_word.word 0))
 
 -- the word spells no ID
-abbrev pub is_misspelt : Reference → Bool
-is_misspelt reference = is_none (id_read reference.word)
+abbrev pub is_misspelt : IdWord → Bool
+is_misspelt id_word = is_none (id_read id_word.word)
 
 -- a line has an ID of its own, and it is misspelt
 abbrev pub is_own_misspelt : Form → Bool

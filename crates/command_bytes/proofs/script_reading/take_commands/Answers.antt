@@ -1,7 +1,7 @@
 use Rattle.std.proofs.Common.{◌≡◌, ◌++◌, ◌∷◌, [], Some, None}
 use Rattle.command_bytes.specs.CommandReading.{command_at, list_on}
 use Rattle.command_bytes.proofs.ListLemmas.{goes_on, ends, is_done}
-use Rattle.command_bytes.proofs.read_commands.take_commands.Goals as goal
+use Rattle.command_bytes.proofs.script_reading.take_commands.Goals as goal
 
 pub returns-in-None : goal.returns-in-None
 returns-in-None c =

@@ -1,8 +1,8 @@
 //! The IDs that a line has: its own, and those that it names.
 ghost use Rattle.std.specs.Prelude.{◌≡◌, ◌∷◌, [], map, IfOk, option_map};
 ghost use Rattle.std.specs.List.{list_any};
-ghost use Rattle.ann_reader.specs.References.{may_stand, of_letters, references, own_word, own_id, is_own_misspelt, has_no_letter, is_misspelt};
-ghost use Rattle.ann_reader.specs.FormShows.{seen_text, seen_pair, seen_form, seen_reference};
+ghost use Rattle.ann_reader.specs.LineIds.{may_stand, of_letters, id_words, own_word, own_id, is_own_misspelt, has_no_letter, is_misspelt};
+ghost use Rattle.ann_reader.specs.FormShows.{seen_text, seen_pair, seen_form, seen_id_word};
 
 use crate::id_letters::Letters;
 use crate::line_form::{Form, Pair};
@@ -12,7 +12,7 @@ use std::alloc::Global;
 
 /// A word in the place of an ID, with the letters that may stand there.
 #[derive(Clone, Copy)]
-pub(crate) struct Reference<'a> {
+pub(crate) struct IdWord<'a> {
     pub letters: Letters,
     pub word: &'a str,
 }
@@ -30,11 +30,11 @@ pub(crate) fn may_stand(letters: Letters, kind: Kind) -> bool
 }
 
 /// One place.
-fn one<'a>(alloc: Global, letters: Letters, word: &'a str) -> Result<Vec<Reference<'a>>, Memory>
-    ensures { IfOk result (λ all. map seen_reference all.items ≡ of_letters letters word.now ∷ []) }
+fn one<'a>(alloc: Global, letters: Letters, word: &'a str) -> Result<Vec<IdWord<'a>>, Memory>
+    ensures { IfOk result (λ all. map seen_id_word all.items ≡ of_letters letters word.now ∷ []) }
 {
     let mut all = Vec::new(alloc);
-    all.push(Reference { letters, word })?;
+    all.push(IdWord { letters, word })?;
     Ok(all)
 }
 
@@ -43,12 +43,12 @@ fn of_event<'a>(
     alloc: Global,
     trigger: &'a str,
     pairs: &[Pair<'a>],
-) -> Result<Vec<Reference<'a>>, Memory>
-    ensures { IfOk result (λ all. map seen_reference all.items ≡ of_letters Letters.Spans trigger.now ∷ map (λ pair. of_letters Letters.SpansOrEvents pair.target) (map seen_pair pairs.now)) }
+) -> Result<Vec<IdWord<'a>>, Memory>
+    ensures { IfOk result (λ all. map seen_id_word all.items ≡ of_letters Letters.Spans trigger.now ∷ map (λ pair. of_letters Letters.SpansOrEvents pair.target) (map seen_pair pairs.now)) }
 {
     let mut all = one(alloc, Letters::Spans, trigger)?;
     for pair in pairs {
-        all.push(Reference {
+        all.push(IdWord {
             letters: Letters::SpansOrEvents,
             word: pair.target,
         })?;
@@ -57,12 +57,12 @@ fn of_event<'a>(
 }
 
 /// The places of members.
-fn of_members<'a>(alloc: Global, ids: &[&'a str]) -> Result<Vec<Reference<'a>>, Memory>
-    ensures { IfOk result (λ all. map seen_reference all.items ≡ map (of_letters Letters.Spans) (map seen_text ids.now)) }
+fn of_members<'a>(alloc: Global, ids: &[&'a str]) -> Result<Vec<IdWord<'a>>, Memory>
+    ensures { IfOk result (λ all. map seen_id_word all.items ≡ map (of_letters Letters.Spans) (map seen_text ids.now)) }
 {
     let mut all = Vec::new(alloc);
     for word in ids {
-        all.push(Reference {
+        all.push(IdWord {
             letters: Letters::Spans,
             word,
         })?;
@@ -71,11 +71,11 @@ fn of_members<'a>(alloc: Global, ids: &[&'a str]) -> Result<Vec<Reference<'a>>, 
 }
 
 /// The places of the two arguments of a relation.
-fn of_relation<'a>(alloc: Global, a: &Pair<'a>, b: &Pair<'a>) -> Result<Vec<Reference<'a>>, Memory>
-    ensures { IfOk result (λ all. map seen_reference all.items ≡ of_letters Letters.SpansOrEvents a.now.target.now ∷ of_letters Letters.SpansOrEvents b.now.target.now ∷ []) }
+fn of_relation<'a>(alloc: Global, a: &Pair<'a>, b: &Pair<'a>) -> Result<Vec<IdWord<'a>>, Memory>
+    ensures { IfOk result (λ all. map seen_id_word all.items ≡ of_letters Letters.SpansOrEvents a.now.target.now ∷ of_letters Letters.SpansOrEvents b.now.target.now ∷ []) }
 {
     let mut all = one(alloc, Letters::SpansOrEvents, a.target)?;
-    all.push(Reference {
+    all.push(IdWord {
         letters: Letters::SpansOrEvents,
         word: b.target,
     })?;
@@ -83,8 +83,8 @@ fn of_relation<'a>(alloc: Global, a: &Pair<'a>, b: &Pair<'a>) -> Result<Vec<Refe
 }
 
 /// What a line names, in the order on the line. Cost: the number of IDs.
-pub(crate) fn references<'a>(alloc: Global, form: &Form<'a>) -> Result<Vec<Reference<'a>>, Memory>
-    ensures { IfOk result (λ all. map seen_reference all.items ≡ references (seen_form form.now)) }
+pub(crate) fn id_words<'a>(alloc: Global, form: &Form<'a>) -> Result<Vec<IdWord<'a>>, Memory>
+    ensures { IfOk result (λ all. map seen_id_word all.items ≡ id_words (seen_form form.now)) }
 {
     match form {
         Form::Bad | Form::Text { .. } => Ok(Vec::new(alloc)),
@@ -128,25 +128,25 @@ pub(crate) fn is_own_misspelt(form: &Form, own: Option<AnnId>) -> bool
 }
 
 /// Whether a word begins with none of the letters.
-fn has_no_letter(reference: &Reference) -> bool
-    ensures { result ≡ has_no_letter (seen_reference reference.now) }
+fn has_no_letter(id_word: &IdWord) -> bool
+    ensures { result ≡ has_no_letter (seen_id_word id_word.now) }
 {
-    Kind::of_letter(first_byte(reference.word.as_bytes())).is_none()
+    Kind::of_letter(first_byte(id_word.word.as_bytes())).is_none()
 }
 
 /// Whether a word spells no ID.
-fn is_misspelt(reference: &Reference) -> bool
-    ensures { result ≡ is_misspelt (seen_reference reference.now) }
+fn is_misspelt(id_word: &IdWord) -> bool
+    ensures { result ≡ is_misspelt (seen_id_word id_word.now) }
 {
-    AnnId::read(reference.word.as_bytes()).is_none()
+    AnnId::read(id_word.word.as_bytes()).is_none()
 }
 
 /// Whether some word begins with none of the letters.
-pub(crate) fn some_without_letter(references: &[Reference]) -> bool
-    ensures { result ≡ list_any has_no_letter (map seen_reference references.now) }
+pub(crate) fn some_without_letter(id_words: &[IdWord]) -> bool
+    ensures { result ≡ list_any has_no_letter (map seen_id_word id_words.now) }
 {
-    for reference in references {
-        if has_no_letter(reference) {
+    for id_word in id_words {
+        if has_no_letter(id_word) {
             return true;
         }
     }
@@ -154,11 +154,11 @@ pub(crate) fn some_without_letter(references: &[Reference]) -> bool
 }
 
 /// Whether some word spells no ID.
-pub(crate) fn some_misspelt(references: &[Reference]) -> bool
-    ensures { result ≡ list_any is_misspelt (map seen_reference references.now) }
+pub(crate) fn some_misspelt(id_words: &[IdWord]) -> bool
+    ensures { result ≡ list_any is_misspelt (map seen_id_word id_words.now) }
 {
-    for reference in references {
-        if is_misspelt(reference) {
+    for id_word in id_words {
+        if is_misspelt(id_word) {
             return true;
         }
     }
