@@ -3,8 +3,8 @@
 //! A [`Work`] is a well-formed layer that commands change. [`Work::apply`] carries a [`Command`]
 //! out, or refuses it by the first rule that it breaks and leaves the layer as it was; [`Work::carry_out`]
 //! does the same for a command that the caller keeps. What each command does is defined in
-//! `specs/MadeLayers.antt`, and what it breaks in `specs/Commands.antt`. The rules are those of the crate
-//! `layer_rules`.
+//! `specs/MadeLayers.antt`, what its own fields break in `specs/OwnRules.antt`, and what it comes to in
+//! `specs/Commands.antt`. The rules are those of the crate `layer_rules`.
 //!
 //! ```text
 //! let mut work = Work::open(alloc, layer, doc, conf)?;
