@@ -21,23 +21,18 @@ pub(crate) struct Repeat {
 }
 
 /// The first annotation that is like one before it. Cost: the numbers of all, times the logarithm of
-/// how many annotations there are.
+/// how many annotations there are; no numbers are copied.
 pub(crate) fn first_repeat(alloc: Global, all: &[KeyedId]) -> Result<Option<Repeat>, Memory>
     ensures { IfOk result (λ repeat. repeat ≡ repeat_after [] (map shown all.now)) }
 {
-    let mut seen: BTreeMap<Vec<u64>, AnnId> = BTreeMap::new(alloc);
+    let mut seen: BTreeMap<&[u64], AnnId> = BTreeMap::new(alloc);
     for one in all {
-        match seen.get(&one.key) {
-            Some(first) => {
-                return Ok(Some(Repeat {
-                    first: *first,
-                    again: one.id,
-                }));
-            }
-            None => {
-                let key = Vec::from_slice(alloc, one.key.as_slice())?;
-                seen.insert(key, one.id)?;
-            }
+        let before = seen.insert(one.key.as_slice(), one.id)?;
+        if let Some(first) = before {
+            return Ok(Some(Repeat {
+                first,
+                again: one.id,
+            }));
         }
     }
     Ok(None)
