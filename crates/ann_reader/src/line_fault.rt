@@ -21,10 +21,10 @@ use crate::declared_names::{LineTypes, Value, value_read};
 use crate::known_lines::KnownLines;
 use crate::line::Line;
 use crate::line_form::{Form, Pair};
-use crate::line_meaning::ends_of;
 use crate::line_ids::{
-    IdWord, is_own_misspelt, may_stand, id_words, some_misspelt, some_without_letter,
+    IdWord, id_words, is_own_misspelt, may_stand, some_misspelt, some_without_letter,
 };
+use crate::line_meaning::ends_of;
 use crate::roles::role_read;
 use crate::word::first_byte;
 use conf_model::Conf;

@@ -14,10 +14,10 @@
 mod command_values;
 mod id_bytes;
 mod laws;
-mod script_reading;
+mod read_commands;
 mod read_fields;
 mod read_load;
-mod read_commands;
+mod script_reading;
 mod worked_rows;
 mod write_commands;
 mod write_fields;

@@ -5,9 +5,9 @@ ghost use Rattle.command_bytes.specs.CommandBytes.{scripts_bytes};
 ghost use Rattle.command_bytes.specs.WritableCommands.{AreScripts};
 ghost use Rattle.command_bytes.specs.CommandReading.{ReadsCommand, command_fields_at, command_at, list_on, list_at, scripts_at, scripts_of};
 
+use crate::read_commands::take_plain;
 use crate::read_fields::Cursor;
 use crate::read_load::take_load;
-use crate::read_commands::take_plain;
 use char_documents::Doc;
 use conf_model::Conf;
 use layer_core::Command;

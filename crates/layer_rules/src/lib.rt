@@ -14,6 +14,7 @@
 #![tactic(auto)]
 
 mod bad_texts;
+mod carried_by_rules;
 mod check_fault;
 mod class_rules;
 mod commit;
@@ -23,7 +24,6 @@ mod layer_check;
 mod layer_full;
 mod lowest_flaw;
 mod mark_rules;
-mod carried_by_rules;
 mod overlaps;
 mod repeats;
 mod rules_by_kind;
@@ -36,6 +36,7 @@ mod text_flaw;
 mod worked_rows;
 
 pub use crate::bad_texts::{is_bad_entry, is_bad_store, is_bad_text};
+pub use crate::carried_by_rules::{carried_by_rule, id_text};
 pub use crate::check_fault::CheckFault;
 pub use crate::class_rules::are_bad_members;
 pub use crate::commit::may_commit;
@@ -45,7 +46,6 @@ pub use crate::mark_rules::{
     LONGEST_REACH, barred_class, barred_type, last_end, missing, missing_ids, unwanted,
     unwanted_members, where_so,
 };
-pub use crate::carried_by_rules::{id_text, carried_by_rule};
 pub use crate::targets::{
     is_argument, is_attribute_target, is_event_type, is_id, is_member, is_trigger, target_of,
 };

@@ -11,7 +11,7 @@ ghost use Rattle.project_steps.specs.Steps.Judging.{decided_number, snapshot_dec
 use conf_model::Conf;
 use curator_decisions::DecisionFault;
 use layer_model::Rule;
-use layer_rules::{id_text, carried_by_rule};
+use layer_rules::{carried_by_rule, id_text};
 use mark_base::{Memory, Text};
 use project_state::{BookRefusal, BookState, Policy, Request, StoredSnapshot};
 use std::alloc::Global;
