@@ -5,6 +5,7 @@ pub mod CleanLemmas
 pub mod CountLemmas
 pub mod CoverLemmas
 pub mod FaultlessLemmas
+mod FieldLemmas
 pub mod FileLemmas
 pub mod FormFacts
 pub mod HeldLemmas
@@ -29,6 +30,7 @@ pub mod StandLemmas
 pub mod StepLemmas
 pub mod TextCuts
 pub mod TextLemmas
+mod TypeLemmas
 pub mod UniqueLemmas
 pub mod WholeLayer
 pub mod WordLemmas

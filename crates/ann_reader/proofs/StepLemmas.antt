@@ -114,6 +114,22 @@ heads_again lines line heads id h e there place =
       | false ↦ λ t. h place ∙ sym (passed place lines line (headed ∙ t))
     ] in cases refl
 
+-- a number that was put down twice stands as it was
+pub heads_back : (lines : List Line) (heads one two : BTreeMap ℕ ℕ) (key first n : ℕ) → FindsHeads lines heads → get nat_cmp heads key ≡ Some first
+    → Updates nat_cmp heads one key (Some n) → Updates nat_cmp one two key (Some first) → FindsHeads lines two
+heads_back lines heads one two key first n h was u v place =
+    let now : get nat_cmp two place ≡ cond (key == place) (Some first) (cond (key == place) (Some n) (get nat_cmp heads place)) =
+    v.0 place ∙ ap (λ b. cond b (Some first) (get nat_cmp one place)) (number_same key place)
+    ∙ ap (cond (key == place) (Some first)) (u.0 place ∙ ap (λ b. cond b (Some n) (get nat_cmp heads place)) (number_same key place)) in
+    let P : Bool → Type 0 = λ b. (key == place) ≡ b → get nat_cmp two place ≡ get nat_cmp heads place in
+    let cases : P (key == place) = elim (key == place) as P [
+      | true ↦ λ t. now ∙ ap (λ b. cond b (Some first) (cond b (Some n) (get nat_cmp heads place))) t ∙ sym was ∙ ap (get nat_cmp heads) (eqb-true key place t)
+      | false ↦ λ t. now ∙ ap (λ b. cond b (Some first) (cond b (Some n) (get nat_cmp heads place))) t
+    ] in cases refl ∙ h place
+
+pub back_there : (one two : BTreeMap ℕ ℕ) (key first : ℕ) → Updates nat_cmp one two key (Some first) → get nat_cmp two key ≡ Some first
+back_there one two key first v = v.0 key ∙ ap (λ b. cond b (Some first) (get nat_cmp one key)) (number_same key key ∙ eq-eqb key key refl)
+
 -- a line whose ID is new
 pub heads_new : (lines : List Line) (line : Line) (heads more : BTreeMap ℕ ℕ) (id : AnnId) → FindsHeads lines heads → Some id ≡ id_read (head_field line.bytes)
     → is_some (get nat_cmp heads (id_place id)) ≡ false → Updates nat_cmp heads more (id_place id) (Some line.number) → FindsHeads (lines ++ line ∷ []) more

@@ -66,7 +66,7 @@ pub(crate) fn add_line(
     requires typed { HasTypes conf.now (seen_form form) types.now }
     requires few { length layer.old.classes < 4294967295 }
     requires some { NamesSome (seen_form form) }
-    ensures { OnOk result (layer.new ≡ with_form conf.now layer.old (seen_form form)) }
+    ensures { OnOk result (layer.new ≡ with_form conf.now layer.old (seen_form form.entry)) }
 {
     let said = said_of(alloc, conf, &form, types)?;
     let mark = mark_of(alloc, conf, form, types)?;

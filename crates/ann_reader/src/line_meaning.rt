@@ -242,7 +242,7 @@ pub(crate) fn mark_of(
     types: &LineTypes,
 ) -> Result<Option<Mark>, Memory>
     requires { HasTypes conf.now (seen_form form) types.now }
-    ensures { IfOk result (λ mark. mark ≡ mark_of conf.now (seen_form form)) }
+    ensures { IfOk result (λ mark. mark ≡ mark_of conf.now (seen_form form.entry)) }
 {
     match form {
         Form::Bad | Form::Class { .. } => Ok(None),

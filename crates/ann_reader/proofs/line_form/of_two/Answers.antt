@@ -1,21 +1,25 @@
-use Rattle.std.proofs.Common.{◌≡◌, ◌∙◌, ◌&&◌, not, cond, ap, subst, List, ℕ}
+use Rattle.std.proofs.Common.{◌≡◌, ◌∙◌, ◌&&◌, not, sym, ap, subst}
 use Rattle.std.specs.Prelude.{IfOk}
-use Rattle.ann_reader.specs.Lines.{has_tab, first_field, behind_tab, without_end}
-use Rattle.ann_reader.specs.LineForms.{Form, BadForm, two_form, of_two}
+use Rattle.ann_reader.specs.Lines.{has_tab, behind_tab}
+use Rattle.ann_reader.specs.LineForms.{Form}
 use Rattle.ann_reader.specs.FormShows.{seen_form}
+use Rattle.ann_reader.proofs.FieldLemmas.{tab_in, no_tab, two_good, two_bad}
 use Rattle.ann_reader.proofs.line_form.of_two.Goals as goal
 
--- a line by its first field and what is left of it
-unfoldable by : ℕ → List ℕ → List ℕ → Form
-by b first short = cond (has_tab short && not (has_tab (behind_tab short))) (two_form b first (behind_tab short)) BadForm
+pub returns-else-has_tab : goal.returns-else-has_tab
+returns-else-has_tab c =
+    let short = c.without_end.result.now in
+    subst (λ (f : Form). IfOk c.two_form.result (λ form. seen_form form ≡ f))
+    (two_good c.args.byte c.before-else-has_tab.result.now c.in-Some.second.now short c.args.line.now c.without_end.ensures c.before-else-has_tab.ensures c.in-Some.ensures.2 (tab_in short c.in-Some.ensures.0) (sym c.has_tab.ensures ∙ c.if-has_tab.false))
+    c.two_form.ensures
 
-same_by : (b : ℕ) (first short line : List ℕ) → first ≡ first_field line → short ≡ without_end line
-    → cond (has_tab short && not (has_tab (behind_tab short))) (two_form b first (behind_tab short)) BadForm ≡ of_two b line
-unfolding by
-same_by b first short line p q = ap (λ f. by b f short) p ∙ ap (by b (first_field line)) q
+pub returns-then-has_tab : goal.returns-then-has_tab
+returns-then-has_tab c =
+    let short = c.without_end.result.now in
+    two_bad c.args.byte short c.args.line.now c.without_end.ensures
+    (ap (λ t. t && not (has_tab (behind_tab short))) (tab_in short c.in-Some.ensures.0) ∙ ap not (ap has_tab (sym c.in-Some.ensures.2) ∙ sym c.has_tab.ensures ∙ c.if-has_tab.true))
 
-pub returns : goal.returns
-returns c =
-    subst (λ (f : Form). IfOk c.two_by.result (λ form. seen_form form ≡ f))
-    (same_by c.args.byte c.before-2.result.now c.without_end.result.now c.args.line.now c.before-2.ensures c.without_end.ensures)
-    c.two_by.ensures
+pub returns-in-None : goal.returns-in-None
+returns-in-None c =
+    let short = c.without_end.result.now in
+    two_bad c.args.byte short c.args.line.now c.without_end.ensures (ap (λ t. t && not (has_tab (behind_tab short))) (no_tab short c.in-None.ensures))
