@@ -51,7 +51,7 @@ held_after : (place : ℕ) (id : AnnId) (classes : List Class) (kinds : List ℕ
 held_after place id classes [] e = e
 held_after place id classes (kind ∷ kinds) e = held_after place id (parted kind id classes) kinds (parted_held place kind id classes e)
 
-same_classes : (layer : Annotations) (kind : Kind) (number : ℕ) → (without_number layer kind number).classes ≡ layer.classes
+pub same_classes : (layer : Annotations) (kind : Kind) (number : ℕ) → (without_number layer kind number).classes ≡ layer.classes
 same_classes layer letter.Text number = refl
 same_classes layer letter.Event number = refl
 same_classes layer letter.Relation number = refl

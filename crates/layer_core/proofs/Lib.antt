@@ -7,3 +7,5 @@ mod OwnLemmas
 mod PairedLemmas
 mod TellLemmas
 mod WorkLemmas
+mod BackLemmas
+mod TouchedLemmas

@@ -1,6 +1,6 @@
 -- What carrying out a command comes to, from its steps.
 use Rattle.std.proofs.Common.{◌≡◌, ℕ, ◌<◌, ◌≤◌, zero, suc, List, [], ◌∷◌, length, slice_get, Option, Some, None, Ok, Err, option_and_then, refl, sym, ◌∙◌, ap, subst, arith}
-use Rattle.std.specs.Prelude.{IfOk}
+use Rattle.std.specs.Prelude.{IfOk, IfSome, OnErr, OnOk, Result, option_map}
 use Rattle.mark_base.specs.declared.ann_id.AnnId.{AnnId}
 use Rattle.conf_model.specs.Configurations.{Configuration}
 use Rattle.layer_model.specs.declared.class.Class.{Class}
@@ -11,6 +11,9 @@ use Rattle.layer_core.specs.declared.command.Command.{Command}
 use Rattle.layer_rules.specs.LayerRules.{classes_full}
 use Rattle.layer_rules.specs.WellFormed.{IsWellFormed}
 use Rattle.layer_core.specs.MadeLayers.{Draft, draft}
+use Rattle.layer_core.specs.declared.draft.Draft as kept
+use Rattle.layer_core.specs.DraftShows.{draft_of}
+use Rattle.layer_core.specs.Backs.{IsDraftOf}
 use Rattle.layer_core.specs.Commands.{Applied, answer_of, applied_of, apply, refusal}
 use Rattle.layer_core.proofs.CommandLemmas.{commands_keep}
 
@@ -52,3 +55,14 @@ pub kept_by : (conf : Configuration) (characters : ℕ) (layer : Annotations) (c
     → apply conf characters layer command ≡ Ok (applied_of layer made) → new ≡ (applied_of layer made).layer → IsWellFormed conf characters new
 kept_by conf characters layer command made new well done is =
     subst (IsWellFormed conf characters) (sym is) (subst (λ r. IfOk r (λ applied. IsWellFormed conf characters applied.layer)) done (commands_keep conf characters layer command well))
+
+-- what was made for a command is its draft
+pub drafted_by : (conf : Configuration) (layer : Annotations) (command : Command) (made : Option kept.Draft) → option_map draft_of made ≡ draft conf layer command
+    → IfSome made (λ m. IsDraftOf layer command (draft_of m))
+drafted_by conf layer command None e = tt
+drafted_by conf layer command (Some m) e = (conf, sym e)
+
+-- what is kept where something is done and where nothing is
+pub kept_either : {X Y : Type 0} (P : Annotations → Type 0) (result : Result X Y) (old led new : Annotations) → OnOk result (new ≡ led) → OnErr result (new ≡ old) → P old → P led → P new
+kept_either P (Ok x) old led new done stays before after = subst P (sym done) after
+kept_either P (Err y) old led new done stays before after = subst P (sym stays) before

@@ -1,8 +1,10 @@
 pub mod Commands
 pub mod OwnRules
+pub mod Backs
 pub mod MadeLayers
 pub mod CommandRules
 pub mod Cascade
 pub mod DraftShows
 pub mod ValueShows
+pub mod Touched
 pub mod Works

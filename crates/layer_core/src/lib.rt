@@ -13,6 +13,7 @@
 #![tactic(auto)]
 
 mod attribute_value;
+mod back;
 mod cascade;
 mod command;
 mod command_laws;
@@ -25,9 +26,13 @@ mod named_in_refusal;
 mod refusal;
 mod removal;
 mod shared;
+mod touched_laws;
+mod ways_back;
 mod work;
 
+pub use crate::back::Back;
 pub use crate::command::Command;
 pub use crate::command_laws::commands_keep_layers;
 pub use crate::refusal::Refusal;
+pub use crate::touched_laws::changes_break_what_they_touch;
 pub use crate::work::{Done, Work};

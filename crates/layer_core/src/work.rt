@@ -1,10 +1,11 @@
 //! A layer that commands change.
-ghost use Rattle.std.specs.Prelude.{◌≡◌, ◌<◌, IfOk, IfErr, OnErr, Ok, Some, length, option_map, option_and_then};
+ghost use Rattle.std.specs.Prelude.{◌≡◌, ◌<◌, IfOk, IfErr, IfSome, OnErr, OnOk, Ok, Some, true, length, option_map, option_and_then};
 ghost use Rattle.std.specs.Arc.{arc_value};
 ghost use Rattle.layer_rules.specs.CheckFaults.{IsCheckFault};
 ghost use Rattle.layer_core.specs.Commands.{applied_of, apply, draft_rule, lower_rule, made_by, refusal};
 ghost use Rattle.layer_core.specs.MadeLayers.{draft};
 ghost use Rattle.layer_core.specs.DraftShows.{draft_of};
+ghost use Rattle.layer_core.specs.Backs.{IsDraftOf, IsWayBack, fits_back, led_back};
 ghost use Rattle.layer_rules.specs.WellFormed.{IsWellFormed, least_flaw};
 ghost use Rattle.layer_core.specs.Works.{IsRefusal};
 
@@ -12,7 +13,8 @@ use crate::command_rules::{moved_rule, own_rule};
 use crate::draft::Draft;
 use crate::made_layers::draft;
 use crate::named_in_refusal::told_of;
-use crate::{Command, Refusal};
+use crate::ways_back::{changed_alone, exchange, go_back};
+use crate::{Back, Command, Refusal};
 use char_documents::Doc;
 use conf_model::Conf;
 use layer_model::{Flaw, Layer, Rule};
@@ -151,6 +153,7 @@ fn accepted(
 ) -> Result<Option<Draft>, Refusal>
     requires few { length layer.now.classes < 4294967295 }
     ensures done { IfOk result (λ made. apply conf.now (length doc.now) layer.now command.now ≡ Ok (applied_of layer.now (option_map draft_of made))) }
+    ensures drafted { IfOk result (λ made. IfSome made (λ made. IsDraftOf layer.now command.now (draft_of made))) }
     ensures refused { IfErr result (IsRefusal conf.now (length doc.now) layer.now command.now) }
 {
     let made = draft(alloc, conf, layer, command)?;
@@ -160,18 +163,22 @@ fn accepted(
     }
 }
 
-/// Takes the layer of a draft, where there is one, and tells what it made.
-fn take_draft(layer: &mut Layer, made: Option<Draft>) -> Done
+/// Takes the layer of the draft of a command, where there is one, and tells what it made and what leads
+/// back.
+fn take_draft(layer: &mut Layer, command: &Command, made: Option<Draft>) -> (Done, Back)
+    requires { IfSome made (λ made. IsDraftOf layer.old command.now (draft_of made)) }
     ensures layer { layer.new ≡ (applied_of layer.old (option_map draft_of made)).layer }
-    ensures made { result.made ≡ (applied_of layer.old (option_map draft_of made)).made }
+    ensures made { result.0.made ≡ (applied_of layer.old (option_map draft_of made)).made }
+    ensures back { IsWayBack result.1 layer.new layer.old }
 {
     match made {
         Some(made) => {
             let id = made_by(&made);
-            *layer = made.layer;
-            Done { made: id }
+            let under = changed_alone(layer, command, &made);
+            let back = exchange(layer, made.layer, under);
+            (Done { made: id }, back)
         }
-        None => Done { made: None },
+        None => (Done { made: None }, Back::Same),
     }
 }
 
@@ -243,7 +250,46 @@ impl Work {
         ensures conf { self.new.conf ≡ self.old.conf }
         ensures text { self.new.text ≡ self.old.text }
     {
+        let (done, _) = self.carry_out_back(command)?;
+        Ok(done)
+    }
+
+    /// Carries a command out as `apply` does, and tells what leads back to the layer before it, for
+    /// `revert`. Cost: as `apply`.
+    pub fn apply_back(&mut self, command: Command) -> Result<(Done, Back), Refusal>
+        ensures done { IfOk result (λ told. apply self.old.conf (length self.old.text) self.old.layer command ≡ Ok (record { layer = self.new.layer; made = told.0.made })) }
+        ensures back { IfOk result (λ told. IsWayBack told.1 self.new.layer self.old.layer) }
+        ensures refused { IfErr result (IsRefusal self.old.conf (length self.old.text) self.old.layer command) }
+        ensures kept { OnErr result (self.new ≡ self.old) }
+        ensures conf { self.new.conf ≡ self.old.conf }
+        ensures text { self.new.text ≡ self.old.text }
+    {
+        self.carry_out_back(&command)
+    }
+
+    /// Carries a command out that the caller keeps, as `apply_back` does. Cost: as `apply`.
+    pub fn carry_out_back(&mut self, command: &Command) -> Result<(Done, Back), Refusal>
+        ensures done { IfOk result (λ told. apply self.old.conf (length self.old.text) self.old.layer command.now ≡ Ok (record { layer = self.new.layer; made = told.0.made })) }
+        ensures back { IfOk result (λ told. IsWayBack told.1 self.new.layer self.old.layer) }
+        ensures refused { IfErr result (IsRefusal self.old.conf (length self.old.text) self.old.layer command.now) }
+        ensures kept { OnErr result (self.new ≡ self.old) }
+        ensures conf { self.new.conf ≡ self.old.conf }
+        ensures text { self.new.text ≡ self.old.text }
+    {
         let made = accepted(self.alloc, &self.conf, &self.doc, &self.layer, command)?;
-        Ok(take_draft(&mut self.layer, made))
+        Ok(take_draft(&mut self.layer, command, made))
+    }
+
+    /// Goes a way back that `apply_back` told of the layer as it stands: the layer before that command
+    /// stands again. Want of memory leaves the work as it was and gives the way back again. Cost: what
+    /// the command took away; a copy of the layer where it put another annotation in the place of one.
+    pub fn revert(&mut self, back: Back) -> Result<(), (Back, Memory)>
+        requires fits { fits_back back ≡ true }
+        requires well_formed { IsWellFormed self.old.conf (length self.old.text) (led_back back self.old.layer) }
+        ensures done { OnOk result (self.new ≡ record { conf = self.old.conf; text = self.old.text; layer = led_back back self.old.layer }) }
+        ensures kept { OnErr result (self.new ≡ self.old) }
+        ensures given { IfErr result (λ stop. stop.0 ≡ back) }
+    {
+        go_back(&mut self.layer, back)
     }
 }

@@ -256,7 +256,7 @@ pairs_below pairs layer id other = nat_lt (rank other) (rank id) && option_map_o
 abbrev pub below_rule : (Mark → Bool) → AnnId → AnnId → Mark → Option Rule
 below_rule pairs id other mark = where_so (nat_lt (rank other) (rank id) && pairs mark) TooDeep
 
-no_class_place : (f : AnnId → Mark → Option Rule) (layer : Annotations) (is_ : List ℕ) → first_place (by_place f (λ _ _. None) layer) (map at.Class is_) ≡ None
+pub no_class_place : (f : AnnId → Mark → Option Rule) (layer : Annotations) (is_ : List ℕ) → first_place (by_place f (λ _ _. None) layer) (map at.Class is_) ≡ None
 no_class_place f layer [] = refl
 no_class_place f layer (i ∷ is_) =
     elim (slice_get layer.classes i) as (λ o. option_or (option_map (λ rule. record { rule = rule; at = at.Class i }) (option_and_then (λ _. None) o)) (first_place (by_place f (λ _ _. None) layer) (map at.Class is_)) ≡ None) [
@@ -271,7 +271,7 @@ not_below pairs layer id other none =
       | Some mark ↦ λ no_. ap (λ b. where_so b TooDeep) no_
     ] none
 
-none_below : (pairs : Mark → Bool) (layer : Annotations) (id : AnnId) (rest : List FlawPlace) → first_place (by_place (below_rule pairs id) (λ _ _. None) layer) rest ≡ None
+pub none_below : (pairs : Mark → Bool) (layer : Annotations) (id : AnnId) (rest : List FlawPlace) → first_place (by_place (below_rule pairs id) (λ _ _. None) layer) rest ≡ None
     → (ids : List AnnId) → find (pairs_below pairs layer id) ids ≡ None → first_place (by_place (below_rule pairs id) (λ _ _. None) layer) (map at.Mark ids ++ rest) ≡ None
 none_below pairs layer id rest later [] e = later
 none_below pairs layer id rest later (other ∷ ids) e =

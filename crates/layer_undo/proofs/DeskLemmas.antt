@@ -78,12 +78,6 @@ redo_keeps desk command is_desk e =
           ∙ is_desk.accepted;
     }
 
--- the done commands without the last are not refused
-pub front_accepted : (desk : DeskState) (command : Command) → IsDesk desk → last_of desk.done ≡ Some command → IsOk (replay desk.conf (length desk.text) desk.base (but_last desk.done))
-front_accepted desk command is_desk e =
-    let before = with_scripts desk (but_last desk.done) (desk.undone ++ command ∷ []) in
-    replay_front desk.conf (length desk.text) 0 desk.base (but_last desk.done) (reverse before.undone) (all_accepted before (undo_keeps desk command is_desk e))
-
 -- the command that was undone last is not refused on the layer of the desk
 pub last_accepted : (desk : DeskState) (layer : Annotations) (command : Command) → IsDesk desk → replay desk.conf (length desk.text) desk.base desk.done ≡ Ok layer → last_of desk.undone ≡ Some command → IsOk (replay_from desk.conf (length desk.text) (length desk.done) layer (command ∷ []))
 last_accepted desk layer command is_desk now e =
@@ -105,23 +99,9 @@ pub layer_is : (desk : DeskState) (layer : Annotations) → replay desk.conf (le
 layer_is desk layer e = ap (λ outcome. unwrap_or (result_ok outcome) desk.base) e
 
 -- the last of a list that went to the end of another
-moved_of : {X : Type 0} (last : Option X) (ys zs : List X) → option_map (λ x. ys ++ x ∷ []) last ≡ Some zs → (x : X) × (last ≡ Some x) × (ys ++ x ∷ [] ≡ zs)
+pub moved_of : {X : Type 0} (last : Option X) (ys zs : List X) → option_map (λ x. ys ++ x ∷ []) last ≡ Some zs → (x : X) × (last ≡ Some x) × (ys ++ x ∷ [] ≡ zs)
 moved_of None ys zs e = absurd (none-some zs e)
 moved_of (Some x) ys zs e = (x, refl, ap (λ o. unwrap_or o zs) e)
-
--- a work that has the layer of a desk with one command less
-pub undo_works : (desk : DeskState) (old new : WorkState) (base : Annotations) (kept done undone : List Command) → IsWorkOf desk old → base ≡ desk.base → kept ≡ but_last desk.done → done ≡ but_last desk.done → option_map (λ command. desk.undone ++ command ∷ []) (last_of desk.done) ≡ Some undone → replay desk.conf (length desk.text) base kept ≡ Ok new.layer → new.conf ≡ desk.conf → new.text ≡ desk.text → IsWorkOf (with_scripts desk done undone) new
-undo_works desk old new base kept done undone is same_base same_kept less more layer conf text =
-    let m = moved_of (last_of desk.done) desk.undone undone more in
-    record {
-      is_desk = subst (λ d. IsDesk (with_scripts desk d undone)) (sym less) (subst (λ u. IsDesk (with_scripts desk (but_last desk.done) u)) m.2 (undo_keeps desk m.0 is.is_desk m.1));
-      conf = conf;
-      text = text;
-      layer =
-          ap (replay desk.conf (length desk.text) desk.base) (less ∙ sym same_kept)
-          ∙ ap (λ b. replay desk.conf (length desk.text) b kept) (sym same_base)
-          ∙ layer;
-    }
 
 -- the configuration and the text of a work are those of its desk
 same_setting : (desk : DeskState) (work : WorkState) (at : ℕ) (layer : Annotations) (commands : List Command) → IsWorkOf desk work → replay_from work.conf (length work.text) at layer commands ≡ replay_from desk.conf (length desk.text) at layer commands
@@ -146,13 +126,6 @@ pub last_works : (desk : DeskState) (work : WorkState) (at : ℕ) (undone : List
 last_works desk work at undone is place same command e =
     ap is_ok (same_setting desk work at work.layer (command ∷ []) is ∙ ap (λ k. replay_from desk.conf (length desk.text) k work.layer (command ∷ [])) place)
     ∙ last_accepted desk work.layer command is.is_desk is.layer (ap last_of (sym same) ∙ e)
-
--- the done commands without the last are not refused on the base of the desk
-pub front_works : (desk : DeskState) (base : Annotations) (kept : List Command) → IsDesk desk → 0 < length desk.done → base ≡ desk.base → kept ≡ but_last desk.done → IsOk (replay desk.conf (length desk.text) base kept)
-front_works desk base kept is some same_base same_kept =
-    let split = split_last desk.done some in
-    ap is_ok (ap (λ b. replay desk.conf (length desk.text) b kept) same_base ∙ ap (replay desk.conf (length desk.text) desk.base) same_kept)
-    ∙ front_accepted desk split.0 is split.1
 
 -- a command that was carried out on the layer of a desk leaves a desk
 pub perform_keeps : (desk : DeskState) (layer made : Annotations) (command : Command) → IsDesk desk → length desk.done < 4096 → replay desk.conf (length desk.text) desk.base (desk.done ++ command ∷ []) ≡ Ok made → IsDesk (with_scripts desk (desk.done ++ command ∷ []) [])

@@ -35,7 +35,7 @@ next_keeps : (P : Annotations → Type 0) (at : ℕ) (made : Annotations) (appli
 next_keeps P at made (Ok applied) rest kept more e = more applied.layer kept e
 next_keeps P at made (Err rule) rest kept more e = absurd (false≢true (ap is_ok e))
 
-replay_keeps : KeepsLayers → (conf : Configuration) (characters at : ℕ) (layer made : Annotations) (commands : List Command) → IsWellFormed conf characters layer → replay_from conf characters at layer commands ≡ Ok made → IsWellFormed conf characters made
+pub replay_keeps : KeepsLayers → (conf : Configuration) (characters at : ℕ) (layer made : Annotations) (commands : List Command) → IsWellFormed conf characters layer → replay_from conf characters at layer commands ≡ Ok made → IsWellFormed conf characters made
 replay_keeps keeps conf characters at layer made [] well e = subst (λ o. IsWellFormed conf characters (unwrap_or (result_ok o) layer)) e well
 replay_keeps keeps conf characters at layer made (command ∷ commands) well e =
     next_keeps (IsWellFormed conf characters) at made (apply conf characters layer command) (λ after. replay_from conf characters (at + 1) after commands)

@@ -1,3 +1,5 @@
 pub mod DeskLemmas
 pub mod LawLemmas
 pub mod ReplayLemmas
+mod TrailLemmas
+mod KeptLemmas

@@ -1,9 +1,8 @@
 -- Commands in turn: those of two lists one behind the other, and those of two scripts.
-use Rattle.std.proofs.Common.{◌≡◌, ℕ, ◌+◌, ◌-◌, ◌<◌, List, [], ◌∷◌, ◌++◌, length, take, Option, Some, Result, Ok, Err, refl, sym, ◌∙◌, ap, arith}
+use Rattle.std.proofs.Common.{◌≡◌, ℕ, ◌+◌, ◌-◌, ◌<◌, List, [], ◌∷◌, ◌++◌, length, take, Option, Some, Result, Ok, Err, refl, sym, ◌∙◌, ap, subst, arith}
 use Rattle.std.specs.Prelude.{IsOk, is_ok, suc, nat_lt, reverse, slice_get, if◌then◌else◌}
 use Rattle.std.specs.Result.{result_err}
 use Rattle.std.proofs.lemmas.List.{append_assoc, length-append, reverse-append}
-use Rattle.std.proofs.lemmas.Bool.{false≢true}
 use Rattle.conf_model.specs.Configurations.{Configuration}
 use Rattle.layer_model.specs.declared.rule.Rule.{Rule}
 use Rattle.layer_model.specs.declared.rule.Rule.TheVariants.{DeskFull}
@@ -12,7 +11,7 @@ use Rattle.layer_core.specs.declared.command.Command.{Command}
 use Rattle.layer_core.specs.Commands.{Applied, apply}
 use Rattle.layer_undo.specs.declared.desk_start.DeskStart.{DeskStart}
 use Rattle.layer_undo.specs.declared.desk_start.DeskStart.TheVariants.{Base, At, Memory}
-use Rattle.layer_undo.specs.Starts.{IsStop, IsWantOfMemory}
+use Rattle.layer_undo.specs.Starts.{IsStop}
 use Rattle.layer_undo.specs.Replays.{Outcome, next, replay_from, replay, first_refusal}
 use Rattle.layer_undo.specs.Desks.{last_of, but_last}
 
@@ -105,8 +104,7 @@ stop_front conf characters layer xs ys (Base flaw) h = h
 stop_front conf characters layer xs ys (At index rule) h = replay_stopped conf characters 0 layer (index, rule) xs ys h
 stop_front conf characters layer xs ys Memory h = h
 
--- commands that are not refused stop for want of memory alone
-pub want_alone : (outcome : Outcome) (start : DeskStart) → IsOk outcome → IsStop outcome start → IsWantOfMemory start
-want_alone outcome (Base flaw) ok h = h
-want_alone outcome (At index rule) ok h = false≢true (sym (ap is_ok h) ∙ ok)
-want_alone outcome Memory ok h = h
+-- what stops the second of two scripts on the layer that the first makes stops both
+pub stop_behind : (conf given : Configuration) (text shown : List ℕ) (layer made kept : Annotations) (done undone : List Command) (start : DeskStart) → conf ≡ given → text ≡ shown → kept ≡ made → replay_from conf (length text) 0 layer done ≡ Ok made → IsStop (replay_from given (length shown) (length done) kept (reverse undone)) start → IsStop (replay_from conf (length text) 0 layer (done ++ reverse undone)) start
+stop_behind conf given text shown layer made kept done undone start c t k e stop =
+    subst (λ outcome. IsStop outcome start) (sym (carried conf given text shown layer made kept done undone c t k e)) stop

@@ -7,13 +7,13 @@ ghost use Rattle.layer_undo.specs.Desks.{IsDesk, after_redo, after_undo, layer_o
 ghost use Rattle.layer_undo.specs.Replays.{replay};
 ghost use Rattle.layer_undo.specs.Starts.{IsDeskStart, IsRefused};
 
-use crate::replay::{reopen_with, repeat_last};
-use crate::script_moves::{make_room, move_last};
+use crate::replay::{carry_on, repeat_last, revert_last};
+use crate::script_moves::{make_room, make_way, move_last};
 use crate::scripts::{MOST_COMMANDS, try_scripts};
 use crate::{DeskStart, Script};
 use char_documents::Doc;
 use conf_model::Conf;
-use layer_core::{Command, Done, Refusal, Work};
+use layer_core::{Back, Command, Done, Refusal, Work, commands_keep_layers};
 use layer_model::{Layer, Rule};
 use mark_base::Memory;
 use std::alloc::Global;
@@ -31,12 +31,14 @@ pub struct Desk {
     conf: Arc<Conf>,
     done: Vec<Command>,
     undone: Vec<Command>,
+    backs: Vec<Back>,
     work: Work,
 }
 
 impl Model for Desk {
     ghost use Rattle.std.specs.Arc.{arc_value};
-    ghost use Rattle.layer_undo.specs.Desks.{DeskState, IsWorkOf, desk_code};
+    ghost use Rattle.layer_undo.specs.Desks.{DeskState, desk_code};
+    ghost use Rattle.layer_undo.specs.Trails.{IsKept};
 
     ghost Value = { DeskState };
 
@@ -44,7 +46,7 @@ impl Model for Desk {
 
     ghost view = { λ desk. record { conf = arc_value desk.conf; text = arc_value desk.doc; base = arc_value desk.base; done = desk.done.items; undone = desk.undone.items } };
 
-    ghost invariant = { λ desk. IsWorkOf (record { conf = arc_value desk.conf; text = arc_value desk.doc; base = arc_value desk.base; done = desk.done.items; undone = desk.undone.items }) desk.work };
+    ghost invariant = { λ desk. IsKept (record { conf = arc_value desk.conf; text = arc_value desk.doc; base = arc_value desk.base; done = desk.done.items; undone = desk.undone.items }) desk.work desk.backs.items };
 }
 
 impl Desk {
@@ -63,7 +65,7 @@ impl Desk {
         ensures accepted { IfOk result IsDesk }
         ensures refused { IfErr result (IsDeskStart (arc_value conf) (length (arc_value doc)) (arc_value base) done undone) }
     {
-        let work = try_scripts(alloc, &base, &doc, &conf, done.items(), undone.items())?;
+        let tried = try_scripts(alloc, &base, &doc, &conf, done.items(), undone.items())?;
         Ok(Desk {
             alloc,
             base,
@@ -71,7 +73,8 @@ impl Desk {
             conf,
             done: done.into_vec(),
             undone: undone.into_vec(),
-            work,
+            backs: tried.backs,
+            work: tried.work,
         })
     }
 
@@ -156,6 +159,7 @@ impl Desk {
         self.base = base;
         self.done = Vec::new(self.alloc);
         self.undone = Vec::new(self.alloc);
+        self.backs = Vec::new(self.alloc);
     }
 
     /// Carries a command out. The commands that were undone are gone then. A refusal leaves the desk as
@@ -170,28 +174,27 @@ impl Desk {
             return Err(Refusal::Rule(Rule::DeskFull));
         }
         make_room(&mut self.done)?;
-        let done = self.work.carry_out(&command)?;
+        let done = carry_on(&mut self.work, &mut self.backs, &command)?;
         self.done.push_reserved(command);
         self.undone.clear();
         Ok(done)
     }
 
     /// Takes the last command back. A refusal leaves the desk as it was: `NothingToUndo` where no command
-    /// is done. Cost: a copy and a check of the base, and as much as the commands that stay done cost.
+    /// is done. Cost: what the command took away; a copy of the layer where it put another annotation in
+    /// the place of one.
     pub fn undo(&mut self) -> Result<(), Refusal>
         ensures done { OnOk result (after_undo self.old ≡ Ok self.new) }
         ensures refused { IfErr result (IsRefused (after_undo self.old)) }
         ensures kept { OnErr result (self.new ≡ self.old) }
     {
-        let count = self.done.len();
-        if count == 0 {
+        commands_keep_layers();
+        if self.done.is_empty() {
             return Err(Refusal::Rule(Rule::NothingToUndo));
         }
-        let kept = &self.done[..count - 1];
-        let work = reopen_with(self.alloc, &self.base, &self.doc, &self.conf, kept)?;
         make_room(&mut self.undone)?;
+        revert_last(&mut self.work, &mut self.backs)?;
         move_last(&mut self.done, &mut self.undone);
-        self.work = work;
         Ok(())
     }
 
@@ -206,8 +209,10 @@ impl Desk {
             return Err(Refusal::Rule(Rule::NothingToRedo));
         }
         make_room(&mut self.done)?;
+        make_way(&mut self.backs)?;
         let at = self.done.len() as u32;
-        repeat_last(&mut self.work, at, &self.undone)?;
+        let back = repeat_last(&mut self.work, at, &self.undone)?;
+        self.backs.push_reserved(back);
         move_last(&mut self.undone, &mut self.done);
         Ok(())
     }

@@ -3,7 +3,7 @@ ghost use Rattle.std.specs.Prelude.{◌≡◌, ◌<◌, ◌∷◌, [], ◌++◌,
 ghost use Rattle.std.specs.Vec.{vec_capacity};
 ghost use Rattle.layer_undo.specs.Desks.{but_last, last_of};
 
-use layer_core::Command;
+use layer_core::{Back, Command};
 use mark_base::Memory;
 
 /// Makes room for one more command.
@@ -12,6 +12,15 @@ pub(crate) fn make_room(commands: &mut Vec<Command>) -> Result<(), Memory>
     ensures same { commands.new.items ≡ commands.old.items }
 {
     commands.try_reserve(1)?;
+    Ok(())
+}
+
+/// Makes room for one more way back.
+pub(crate) fn make_way(backs: &mut Vec<Back>) -> Result<(), Memory>
+    ensures room { OnOk result (vec_len backs.new < vec_capacity backs.new) }
+    ensures same { backs.new.items ≡ backs.old.items }
+{
+    backs.try_reserve(1)?;
     Ok(())
 }
 

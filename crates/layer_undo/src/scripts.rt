@@ -2,15 +2,15 @@
 ghost use Rattle.std.specs.Prelude.{◌≡◌, ◌≤◌, ◌+◌, ◌++◌, IfErr, IfOk, IsOk, None, Ok, OnOk, length, nat_lt, reverse};
 ghost use Rattle.std.specs.Arc.{arc_value};
 ghost use Rattle.layer_rules.specs.WellFormed.{IsWellFormed};
-ghost use Rattle.layer_undo.specs.Desks.{IsWorkOf};
 ghost use Rattle.layer_undo.specs.Replays.{first_refusal, replay_from};
 ghost use Rattle.layer_undo.specs.Starts.{IsDeskStart, IsStop};
+ghost use Rattle.layer_undo.specs.Trails.{IsKept, IsTrail};
 
 use crate::replay::{open_copy, reopen, replay_back, replay_forward};
 use crate::{DeskStart, Script};
 use char_documents::Doc;
 use conf_model::Conf;
-use layer_core::{Command, Work};
+use layer_core::{Back, Command, Work};
 use layer_model::{Layer, Rule};
 use std::alloc::Global;
 use std::sync::Arc;
@@ -47,7 +47,8 @@ fn try_undone(
     replay_back(&mut redone, at, undone)
 }
 
-/// Carries done commands out on a work, and tries undone ones behind them.
+/// Carries done commands out on a work, tries undone ones behind them, and tells what leads back from the
+/// done ones.
 fn carry_scripts(
     alloc: Global,
     work: &mut Work,
@@ -55,18 +56,27 @@ fn carry_scripts(
     conf: &Arc<Conf>,
     done: &[Command],
     undone: &[Command],
-) -> Result<(), DeskStart>
+) -> Result<Vec<Back>, DeskStart>
     requires few { length done.now + length undone.now ≤ 4096 }
     requires conf { work.old.conf ≡ arc_value conf.now }
     requires text { work.old.text ≡ arc_value doc.now }
     ensures done { OnOk result (replay_from work.old.conf (length work.old.text) 0 work.old.layer done.now ≡ Ok work.new.layer) }
+    ensures trail { IfOk result (λ backs. IsTrail work.old.conf (length work.old.text) work.old.layer done.now backs.items) }
     ensures accepted { OnOk result (IsOk (replay_from work.old.conf (length work.old.text) 0 work.old.layer (done.now ++ reverse undone.now))) }
     ensures stopped { IfErr result (IsStop (replay_from work.old.conf (length work.old.text) 0 work.old.layer (done.now ++ reverse undone.now))) }
     ensures conf { work.new.conf ≡ work.old.conf }
     ensures text { work.new.text ≡ work.old.text }
 {
-    replay_forward(work, 0, done)?;
-    try_undone(alloc, work.layer(), doc, conf, done.len() as u32, undone)
+    let backs = replay_forward(alloc, work, 0, done)?;
+    try_undone(alloc, work.layer(), doc, conf, done.len() as u32, undone)?;
+    Ok(backs)
+}
+
+/// A work on which the done commands of two scripts were carried out, and what leads back from each.
+#[derive(Drop)]
+pub(crate) struct Tried {
+    pub work: Work,
+    pub backs: Vec<Back>,
 }
 
 /// The work of a desk with these scripts: the done commands are carried out on a copy of the base, and
@@ -78,8 +88,8 @@ pub(crate) fn try_scripts(
     conf: &Arc<Conf>,
     done: &[Command],
     undone: &[Command],
-) -> Result<Work, DeskStart>
-    ensures work { IfOk result (IsWorkOf (record { conf = arc_value conf.now; text = arc_value doc.now; base = base.now; done = done.now; undone = undone.now })) }
+) -> Result<Tried, DeskStart>
+    ensures kept { IfOk result (λ tried. IsKept (record { conf = arc_value conf.now; text = arc_value doc.now; base = base.now; done = done.now; undone = undone.now }) tried.work tried.backs.items) }
     ensures refused { IfErr result (IsDeskStart (arc_value conf.now) (length (arc_value doc.now)) base.now done.now undone.now) }
 {
     let mut work = open_copy(alloc, base, doc, conf)?;
@@ -87,8 +97,8 @@ pub(crate) fn try_scripts(
     if are_too_many(done, undone) {
         return Err(DeskStart::At(MOST_COMMANDS as u32, Rule::DeskFull));
     }
-    carry_scripts(alloc, &mut work, doc, conf, done, undone)?;
-    Ok(work)
+    let backs = carry_scripts(alloc, &mut work, doc, conf, done, undone)?;
+    Ok(Tried { work, backs })
 }
 
 /// Tries two scripts on a layer, as [`Desk::open`](crate::Desk::open) does, and keeps nothing. Cost: a

@@ -1,8 +1,10 @@
-use Rattle.std.proofs.Common.{◌≡◌, ◌+◌, ◌≤◌, length}
+use Rattle.std.proofs.Common.{◌≡◌, ◌+◌, ◌≤◌, List, ◌++◌, length}
+use Rattle.layer_core.specs.declared.back.Back.{Back}
 use Rattle.layer_undo.specs.Replays.{replay_from}
+use Rattle.layer_undo.specs.Trails.{IsTrail}
 use Rattle.layer_undo.proofs.replay.replay_forward.Given as goal
 
--- the commands that are left make of the layer so far what all make of the layer before
+-- the commands that are left make of the layer so far what all make of the layer before, and ways back from them behind those so far are a trail of all
 abbrev pub invariant-loop-left : goal.invariant-loop-left
 invariant-loop-left l =
     record {
@@ -10,6 +12,7 @@ invariant-loop-left l =
       room : l.index + length l.left ≤ 4294967295;
       conf : l.work.conf ≡ l.fn.work.conf;
       text : l.work.text ≡ l.fn.work.text;
+      trail : (more : List Back) → IsTrail l.work.conf (length l.work.text) l.work.layer l.left more → IsTrail l.fn.work.conf (length l.fn.work.text) l.fn.work.layer l.fn.commands (l.backs.items ++ more);
     }
 
 abbrev pub decreases-loop-left : goal.decreases-loop-left
