@@ -122,7 +122,7 @@ fn of_attribute(attributed: Option<AttrId>) -> LineTypes
     }
 }
 
-/// The types that a line names. Cost: a look-up.
+/// The types that a line names. Cost: a walk over the types, at most 256 of them.
 pub(crate) fn line_types(alloc: Global, conf: &Conf, form: &Form) -> Result<LineTypes, Memory>
     ensures { IfOk result (HasTypes conf.now (seen_form form.now)) }
 {

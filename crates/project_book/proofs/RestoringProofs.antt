@@ -6,3 +6,7 @@ pub mod FollowingLemmas
 pub mod FitLemmas
 pub mod FaultLemmas
 pub mod LinesLemmas
+pub mod FirstLemmas
+pub mod DoubledLemmas
+pub mod WantLemmas
+pub mod RowOrderLemmas

@@ -1,11 +1,15 @@
 //! Laws of histories that rest on those of a curator's decisions. Each function but for calls of laws below does
 //! nothing; its contract is the law.
-ghost use Rattle.std.specs.Prelude.{◌≡◌, ◌≤◌, ◌^◌, List, false};
-ghost use Rattle.project_machine.specs.History.{after};
+ghost use Rattle.std.specs.Prelude.{◌≡◌, ◌≤◌, ◌^◌, ℕ, List, false, map};
+ghost use Rattle.entry_bytes.specs.Entries.{entry_bytes};
+ghost use Rattle.project_machine.specs.Entries.{pieces_of};
+ghost use Rattle.project_machine.specs.History.{after, encoded};
 ghost use Rattle.project_machine.specs.Legal.{AreAccepted, IsLegal, IsSound};
-ghost use Rattle.project_machine.specs.ProjectState.{is_some_out};
+ghost use Rattle.project_machine.specs.Opening.{IsBadEntry};
+ghost use Rattle.project_machine.specs.ProjectState.{ProjectState, is_some_out};
 ghost use Rattle.project_machine.specs.Requests.{Happened};
 
+use crate::state_pieces::states_are_told_apart;
 use curator_decisions::{decisions_stay_accepted, undecided_layers_are_accepted};
 use layer_rules::unflawed_layers;
 use project_state::states_can_be_restored;
@@ -21,4 +25,16 @@ pub fn verdicts_are_accepted()
     undecided_layers_are_accepted();
     unflawed_layers();
     states_can_be_restored();
+}
+
+/// What was kept is without fault: no entry of a history is at fault, so `Book::open` answers of them that memory ran out
+/// or the keeper failed, or opens them. So it is with the pieces of each state that can be restored, and of the state
+/// behind each history where no layer is out, at a place of at most 2^62.
+pub fn what_was_kept_is_without_fault()
+    ensures entries { (log : List Happened) (n : ℕ) → IsLegal log → IsBadEntry (encoded log) n → ⊥ }
+    ensures pieces { (s : ProjectState) (n : ℕ) → IsSound s → IsBadEntry (map entry_bytes (pieces_of s)) n → ⊥ }
+    ensures left { (log : List Happened) (n : ℕ) → IsLegal log → is_some_out (after log) ≡ false → (after log).place ≤ 2 ^ 62 → IsBadEntry (map entry_bytes (pieces_of (after log))) n → ⊥ }
+{
+    verdicts_are_accepted();
+    states_are_told_apart();
 }

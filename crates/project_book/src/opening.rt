@@ -79,9 +79,9 @@ impl<K: Keeper> Book<K> {
     /// that made them; of a run of pieces twice what `restore` of `project_restoring` says, and the labels of all rows.
     ///
     /// Entries that begin with a run of pieces are opened as the state whose pieces they are. Where no state that can be
-    /// restored is read of them, the piece at which that shows is named, or the number past the last entry where the run
-    /// lacks its end. `Memory` is answered too where the fault lies within commands or verdicts, or a name stands twice, or
-    /// rows are out of their order: such a piece is not looked for.
+    /// restored is read of them, the first piece at fault is named, or the number past the last entry where the run lacks
+    /// its end. `Memory` is answered too where the fault lies within commands or verdicts, or a text is too long, or the
+    /// layers of a snapshot are out of their order: such a piece is not looked for.
     pub fn open(alloc: Global, keeper: K, entries: &[Bytes]) -> Result<Book<K>, (K, OpenFault)>
         requires kept { IfSome (K.kept keeper) (λ told. told ≡ entries.now) }
         requires certain { K.doubt keeper ≡ None }
@@ -89,7 +89,7 @@ impl<K: Keeper> Book<K> {
         ensures opened { IfOk result (λ book. IsOpened entries.now book.log) }
         ensures only { IfOk result (λ book. IsOnlyOpened entries.now book.log) }
         ensures kept { IfOk result (λ book. IsKeptOpen book.log (K.kept book.keeper) (K.doubt book.keeper)) }
-        // The first entry that is at fault, or one of the run of pieces, or the keeper failed, or memory ran out.
+        // The first entry that is at fault, or the keeper failed, or memory ran out.
         ensures refused { IfErr result (λ back. IsOpenRefusal entries.now back.1) }
         ensures given_back { IfErr result (λ back. IsGivenBack entries.now (back.1 ≡ OpenFault.Keeper) (K.kept back.0) (K.doubt back.0)) }
         // What a stop at any moment of the call leaves: the entries, alone or, where some layer is out, with a freeing.

@@ -5,17 +5,17 @@ ghost use Rattle.project_machine.specs.Legal.{IsFounding, IsSound};
 ghost use Rattle.project_machine.specs.Opening.{IsReplay, freeing_bytes, restored};
 ghost use Rattle.project_machine.specs.ProjectState.{ProjectState};
 ghost use Rattle.project_state.specs.Values.{happened_of};
+ghost use Rattle.project_book.specs.Restoring.Following.{StartsRun};
 ghost use Rattle.project_book.specs.Restoring.Restoring.{IsRun};
 ghost use Rattle.project_state.specs.Entries.Asking.{plain_asking};
 ghost use Rattle.project_book.specs.Founding.{founded};
-ghost use Rattle.project_book.specs.Opening.{StartsRun};
 ghost use Rattle.project_book.specs.Replaying.{BeginsSo, IsAskedBy, IsAskingOf, IsFoundingBy, IsFreeing, IsMadeBy, IsNextKept, IsReading, IsReplayRefusal, IsTakenUp};
 
 use crate::book::Book;
 use crate::founding::{Beginning, complete, founding_change, share};
 use crate::kept_already::KeptAlready;
 use crate::open_fault::OpenFault;
-use crate::restoring::{fault_in, restore, run_length};
+use crate::restoring::{first_fault, restore, run_length};
 use ann_writer::written_layers_are_utf8;
 use annotation_conf::sound_configurations_are_read_back;
 use entry_bytes::{Entry, entries_are_told_apart, read_entry, write_entry};
@@ -384,13 +384,13 @@ fn begun_of_entries<G: Ledger>(
     }
 }
 
-/// Why no project is read of the run of pieces with which some entries begin. Where no piece is found at fault, memory
-/// is said to run out: that this never comes is not proved.
+/// Why no project is read of the run of pieces with which some entries begin. Where the first piece at fault is not
+/// found, memory is said to run out: that this never comes is not proved.
 fn run_refusal(alloc: Global, entries: &[Bytes]) -> Result<OpenFault, Memory>
     requires { StartsRun entries.now }
     ensures { IfOk result (IsReplayRefusal entries.now) }
 {
-    match fault_in(alloc, entries)? {
+    match first_fault(alloc, entries)? {
         Some(number) => Ok(OpenFault::BadEntry(number as u64)),
         None => Ok(OpenFault::Memory),
     }

@@ -12,12 +12,15 @@
 //! in `Legal.antt`. The files read the pieces (`pieces.rt`, `layer_pieces.rt`, `rows.rt`, `shots.rt`, `whole.rt`), test
 //! what was read (`layers_kept.rt`, `rows_kept.rt`, `snapshots_kept.rt`, `sound.rt`), and compare (`restoring.rt`).
 mod ascending;
+mod begun;
+mod doubled;
 mod known;
 mod layer_pieces;
 mod layers_kept;
 mod looking;
 mod pieces;
 mod restoring;
+mod row_order;
 mod rows;
 mod rows_kept;
 mod said_lines;
@@ -25,8 +28,9 @@ mod shots;
 mod snapshots_kept;
 mod so_far;
 mod sound;
+mod wanted;
 mod whole;
 
-pub(crate) use crate::restoring::looking::fault_in;
+pub(crate) use crate::restoring::looking::first_fault;
 pub use crate::restoring::restoring::{restore, run_length};
 pub use crate::restoring::sound::is_sound;

@@ -8,9 +8,8 @@ use Rattle.project_journal.specs.JournalFile.{opened}
 use Rattle.project_journal.specs.Opening.{Refuses}
 use Rattle.project_machine.specs.Requests.{Happened}
 use Rattle.project_machine.specs.History.{encoded}
-use Rattle.project_machine.specs.Opening.{IsOpened}
+use Rattle.project_machine.specs.Opening.{IsBadEntry, IsOpened}
 use Rattle.project_book.specs.Founding.{founding_bytes, is_too_long}
-use Rattle.project_book.specs.Opening.{IsFault}
 use Rattle.program_inputs.specs.declared.trouble.Trouble.{Trouble}
 use Rattle.program_inputs.specs.declared.trouble.Trouble.TheVariants.{AlreadyThere, BadEntry, BookTooLong, Damaged, DiskFailed, Memory, NewerVersion, NotAJournal}
 
@@ -32,7 +31,7 @@ pub record OpensAs (file : Option (List ℕ)) (log : List Happened) : Type 0 whe
 pub record HasBadEntry (file : Option (List ℕ)) (number : ℕ) : Type 0 where
   pub entries : List (List ℕ)
   pub read : HasEntries file entries
-  pub fault : IsFault entries number
+  pub fault : IsBadEntry entries number
 
 -- why the disk of a name is not handed out
 abbrev pub NotTaken : Trouble → Type 0

@@ -1,5 +1,5 @@
 -- Where a run of pieces is at fault: what is known of each state whose first pieces are some entries.
-use Rattle.std.proofs.Common.{◌≡◌, ◌≢◌, ℕ, ◌+◌, ◌<◌, ◌==◌, Bool, true, false, cond, List, [], ◌∷◌, ◌++◌, length, map, get_or, take, Option, Some, None, option_map, slice_get, zero, suc, refl, sym, ◌∙◌, ap, subst, arith, append_assoc, below_more}
+use Rattle.std.proofs.Common.{◌≡◌, ◌≢◌, ℕ, ◌+◌, ◌<◌, ◌≤◌, ◌==◌, Bool, true, false, cond, List, [], ◌∷◌, ◌++◌, length, map, get_or, take, Option, Some, None, option_map, slice_get, zero, suc, refl, sym, ◌∙◌, ap, subst, arith, append_assoc, below_more}
 use Rattle.std.specs.Arc.{arc_value}
 use Rattle.std.specs.List.{AllByRecursion}
 use Rattle.entry_bytes.specs.declared.entry.Entry.{Entry}
@@ -11,7 +11,7 @@ use Rattle.conf_model.specs.ConfText.{conf_text}
 use Rattle.project_machine.specs.Entries.{first_piece, founding_entry, pieces_of}
 use Rattle.project_machine.specs.History.{encoded}
 use Rattle.project_machine.specs.Legal.{IsLegal, IsSound}
-use Rattle.project_machine.specs.Opening.{IsBegun}
+use Rattle.project_machine.specs.Opening.{IsBegun, IsUnopened}
 use Rattle.project_machine.specs.ProjectState.{ProjectState}
 use Rattle.project_machine.specs.Requests.{Founded, Happened}
 use Rattle.project_state.specs.declared.entries.founding.Founding.{Founding}
@@ -19,9 +19,8 @@ use Rattle.project_state.specs.Entries.Founding.{IsFoundingOf, founded}
 use Rattle.project_book.specs.declared.restoring.known.Known.{Known}
 use Rattle.project_book.specs.declared.restoring.so_far.Before.TheVariants as before
 use Rattle.project_book.specs.declared.restoring.so_far.SoFar.{SoFar}
-use Rattle.project_book.specs.Opening.{IsRunFault, StartsRun, is_no_piece, is_without_end}
 use Rattle.project_book.specs.Replaying.{IsReading}
-use Rattle.project_book.specs.Restoring.Following.{BeginsState, Follows, GoOn, HasHead, IsEndless, IsFoundedWith, IsKnown, IsKnownBy, IsKnownOf, IsLook, IsLookedAt, IsNoneBehind, Knows, behind, fits, opening}
+use Rattle.project_book.specs.Restoring.Following.{BeginsState, Follows, GoOn, HasHead, IsEndless, IsFoundedWith, IsKnown, IsKnownBy, IsKnownOf, IsLook, IsLookedAt, IsNoneBehind, IsNoneUpTo, Knows, StartsRun, behind, fits, opening}
 use Rattle.project_book.proofs.RestoringProofs.FitLemmas.{follows_fits}
 use Rattle.project_book.proofs.RestoringProofs.FollowingLemmas.{HasEnd, others, others_go_on, pieces_are_others, pieces_end}
 use Rattle.project_book.proofs.StatePiecesProofs.BeginLemmas.{Begins, begins, with_founding, with_state}
@@ -79,15 +78,15 @@ split_last (f ∷ front) (x ∷ xs) (suc place) within e =
 
 -- ---- pieces that begin as some entries do
 
-record IsCut (pieces : List Entry) (xs : List (List ℕ)) (place : ℕ) : Type 0 where
-  init : List Entry
-  piece : Entry
-  rest : List Entry
-  is : pieces ≡ init ++ piece ∷ rest
-  before_it : map entry_bytes init ≡ take place xs
-  here : entry_bytes piece ≡ get_or xs place []
+pub record IsCut (pieces : List Entry) (xs : List (List ℕ)) (place : ℕ) : Type 0 where
+  pub init : List Entry
+  pub piece : Entry
+  pub rest : List Entry
+  pub is : pieces ≡ init ++ piece ∷ rest
+  pub before_it : map entry_bytes init ≡ take place xs
+  pub here : entry_bytes piece ≡ get_or xs place []
 
-cut_at : (pieces : List Entry) (xs : List (List ℕ)) (place : ℕ) (more beyond : List (List ℕ)) → place < length xs → HasEnd pieces → IsEndless xs place → take (suc place) xs ++ more ≡ map entry_bytes pieces ++ beyond → IsCut pieces xs place
+pub cut_at : (pieces : List Entry) (xs : List (List ℕ)) (place : ℕ) (more beyond : List (List ℕ)) → place < length xs → HasEnd pieces → IsEndless xs place → take (suc place) xs ++ more ≡ map entry_bytes pieces ++ beyond → IsCut pieces xs place
 cut_at pieces [] place more beyond within ended endless e = absurd (omega arith)
 cut_at [] (x ∷ xs) place more beyond within ended endless e = absurd ended
 cut_at (p ∷ ps) (x ∷ xs) zero more beyond within ended endless e =
@@ -114,11 +113,11 @@ never_all (p ∷ q ∷ ps) (x ∷ xs) beyond ended endless e = never_all (q ∷ 
 
 -- ---- histories that begin with a run
 
-record IsOfState (es : List (List ℕ)) : Type 0 where
-  state : ProjectState
-  sound : IsSound state
-  beyond : List (List ℕ)
-  told : es ≡ map entry_bytes (pieces_of state) ++ beyond
+pub record IsOfState (es : List (List ℕ)) : Type 0 where
+  pub state : ProjectState
+  pub sound : IsSound state
+  pub beyond : List (List ℕ)
+  pub told : es ≡ map entry_bytes (pieces_of state) ++ beyond
 
 founding_tag : (conf : List ℕ) (people : List Person) (level : ℕ) (b : Bool) → slice_get (entry_bytes (cond b (entry.Found conf people) (entry.FoundAt conf people level))) 0 ≡ Some 16 → ⊥
 unfolding entry_bytes
@@ -140,7 +139,7 @@ front_starts [] more place within starts = absurd (omega arith)
 front_starts (x ∷ xs) more place within starts = λ first is. starts first is
 
 -- a state whose pieces begin so
-of_begun : (entries : List (List ℕ)) (place : ℕ) → place < length entries → StartsRun entries → (begun : IsBegun (take (suc place) entries)) → IsOfState (take (suc place) entries ++ begun.more)
+pub of_begun : (entries : List (List ℕ)) (place : ℕ) → place < length entries → StartsRun entries → (begun : IsBegun (take (suc place) entries)) → IsOfState (take (suc place) entries ++ begun.more)
 of_begun entries place within starts begun = state_of (take (suc place) entries ++ begun.more) begun.log (front_starts entries begun.more place within starts) begun.legal begun.told
 
 -- ---- pieces are entries
@@ -149,16 +148,16 @@ of_begun entries place within starts begun = state_of (take (suc place) entries 
 abbrev pub PiecesAre : Type 0
 PiecesAre = (s : ProjectState) → IsSound s → AllByRecursion IsEntry (pieces_of s)
 
-all_at : (P : Entry → Type 0) (p : List Entry) (e : Entry) (q : List Entry) → AllByRecursion P (p ++ e ∷ q) → P e
+pub all_at : (P : Entry → Type 0) (p : List Entry) (e : Entry) (q : List Entry) → AllByRecursion P (p ++ e ∷ q) → P e
 all_at P [] e q all = all.0
 all_at P (x ∷ p) e q all = all_at P p e q all.1
 
-piece_is : PiecesAre → (s : ProjectState) (p : List Entry) (e : Entry) (q : List Entry) → IsSound s → pieces_of s ≡ p ++ e ∷ q → IsEntry e
+pub piece_is : PiecesAre → (s : ProjectState) (p : List Entry) (e : Entry) (q : List Entry) → IsSound s → pieces_of s ≡ p ++ e ∷ q → IsEntry e
 piece_is are s p e q sound is = all_at IsEntry p e q (subst (AllByRecursion IsEntry) is (are s sound))
 
 -- ---- what is known behind one more piece
 
-here_is : (entries : List (List ℕ)) (place : ℕ) (bytes : List ℕ) → place < length entries → bytes ≡ get_or entries place bytes → get_or entries place [] ≡ bytes
+pub here_is : (entries : List (List ℕ)) (place : ℕ) (bytes : List ℕ) → place < length entries → bytes ≡ get_or entries place bytes → get_or entries place [] ≡ bytes
 here_is entries place bytes within is = any_default entries place [] bytes within ∙ sym is
 
 longer : (entries : List (List ℕ)) (place : ℕ) (s : ProjectState) (rest : List Entry) → place < length entries → BeginsState entries (place + 1) s rest → (e : Entry) × BeginsState entries place s (e ∷ rest) × (entry_bytes e ≡ get_or entries place [])
@@ -180,11 +179,19 @@ looked_next are entries place bytes known so next within is looked look s rest b
 
 -- ---- faults
 
+-- no history begins with the entries up to a number that is not past the last
+pub none_up_to : (entries : List (List ℕ)) (n : ℕ) → 0 < n → n ≤ length entries → (IsBegun (take n entries) → ⊥) → IsNoneUpTo entries n
+none_up_to entries n some within none = record { some = some; within = omega arith; unbegun = λ _. none; unopened = λ past. absurd (omega arith) }
+
+-- and none has all the entries
+none_past : (entries : List (List ℕ)) → IsUnopened entries → IsNoneUpTo entries (length entries + 1)
+none_past entries none = record { some = omega arith; within = omega arith; unbegun = λ low. absurd (omega arith); unopened = λ _. none }
+
 -- the piece at a place is at fault where it goes on with no state
-pub fault_by : PiecesAre → (entries : List (List ℕ)) (place : ℕ) (bytes : List ℕ) (known : Known) (so : SoFar) → place < length entries → bytes ≡ get_or entries place bytes → StartsRun entries → IsEndless entries place → IsLookedAt entries place known so → IsNoneBehind entries place known so bytes → IsRunFault entries (place + 1)
+pub fault_by : PiecesAre → (entries : List (List ℕ)) (place : ℕ) (bytes : List ℕ) (known : Known) (so : SoFar) → place < length entries → bytes ≡ get_or entries place bytes → StartsRun entries → IsEndless entries place → IsLookedAt entries place known so → IsNoneBehind entries place known so bytes → IsNoneUpTo entries (place + 1)
 fault_by are entries place bytes known so within is starts endless looked none =
     let next : place + 1 ≡ suc place = omega arith in
-    is_no_piece starts (omega arith) (omega arith)
+    none_up_to entries (place + 1) (omega arith) (omega arith)
     (λ begun.
     let here : IsBegun (take (suc place) entries) = subst (λ n. IsBegun (take n entries)) next begun in
     let of : IsOfState (take (suc place) entries ++ here.more) = of_begun entries place within starts here in
@@ -193,26 +200,26 @@ fault_by are entries place bytes known so within is starts endless looked none =
     let told : Knows known of.state × (Follows of.state so.before so.shots cut.piece × GoOn of.state (behind so cut.piece) cut.rest) = looked of.state (cut.piece ∷ cut.rest) begins in
     none of.state cut.rest cut.piece begins told.0 (piece_is are of.state cut.init cut.piece cut.rest of.sound cut.is) (cut.here ∙ here_is entries place bytes within is) told.1.0)
 
-pub fault_here : PiecesAre → (entries : List (List ℕ)) (place : ℕ) (bytes : List ℕ) (known : Known) (so : SoFar) → place < length entries → bytes ≡ get_or entries place bytes → StartsRun entries → IsEndless entries place → IsLookedAt entries place known so → IsLook known so bytes None → IsRunFault entries (place + 1)
+pub fault_here : PiecesAre → (entries : List (List ℕ)) (place : ℕ) (bytes : List ℕ) (known : Known) (so : SoFar) → place < length entries → bytes ≡ get_or entries place bytes → StartsRun entries → IsEndless entries place → IsLookedAt entries place known so → IsLook known so bytes None → IsNoneUpTo entries (place + 1)
 fault_here are entries place bytes known so within is starts endless looked look =
     fault_by are entries place bytes known so within is starts endless looked (λ s rest e begins knows entered same follows. look s e knows entered same follows)
 
 -- the run lacks its end
-pub fault_past : (entries : List (List ℕ)) → StartsRun entries → IsEndless entries (length entries) → IsRunFault entries (length entries + 1)
+pub fault_past : (entries : List (List ℕ)) → StartsRun entries → IsEndless entries (length entries) → IsNoneUpTo entries (length entries + 1)
 fault_past entries starts endless =
-    is_without_end starts refl
+    none_past entries
     (λ log legal same.
     let of : IsOfState entries = state_of entries log starts legal same in
     never_all (pieces_of of.state) entries of.beyond (pieces_end of.state) endless of.told)
 
-first_pieces : (s : ProjectState) (beyond : List (List ℕ)) → map entry_bytes (pieces_of s) ++ beyond ≡ entry_bytes (first_piece s) ∷ (map entry_bytes (others s) ++ beyond)
+pub first_pieces : (s : ProjectState) (beyond : List (List ℕ)) → map entry_bytes (pieces_of s) ++ beyond ≡ entry_bytes (first_piece s) ∷ (map entry_bytes (others s) ++ beyond)
 first_pieces s beyond = ap (λ (es : List Entry). map entry_bytes es ++ beyond) (pieces_are_others s)
 
 -- the first piece is at fault
-pub fault_first : (entries : List (List ℕ)) (first : List ℕ) → slice_get entries 0 ≡ Some first → StartsRun entries → IsKnownBy first None → IsRunFault entries 1
+pub fault_first : (entries : List (List ℕ)) (first : List ℕ) → slice_get entries 0 ≡ Some first → StartsRun entries → IsKnownBy first None → IsNoneUpTo entries 1
 fault_first [] first is starts known = absurd (none_some first is)
 fault_first (x ∷ xs) first is starts known =
-    is_no_piece starts (omega arith) (omega arith)
+    none_up_to (x ∷ xs) 1 (omega arith) (omega arith)
     (λ begun.
     let of : IsOfState (take 1 (x ∷ xs) ++ begun.more) = of_begun (x ∷ xs) 0 (omega arith) starts begun in
     known of.state of.sound (sym (head_same x (entry_bytes (first_piece of.state)) (take 0 xs ++ begun.more) (map entry_bytes (others of.state) ++ of.beyond) (of.told ∙ first_pieces of.state of.beyond)) ∙ some_same x first is))
@@ -244,6 +251,10 @@ end_tag bytes tag e = absurd (let k : 24 ≡ 16 = some_same 24 16 (sym (ap (λ (
 pub endless_first : (entries : List (List ℕ)) (first : List ℕ) → slice_get entries 0 ≡ Some first → StartsRun entries → IsEndless entries 1
 endless_first [] first is starts = absurd (none_some first is)
 endless_first (x ∷ xs) first is starts = λ i low e. end_tag x (starts x refl) (let none : i ≡ 0 = omega arith in subst (λ n. get_or (x ∷ xs) n [] ≡ 24 ∷ []) none e)
+
+pub endless_start : (entries : List (List ℕ)) → StartsRun entries → IsEndless entries 1
+endless_start [] starts = λ i low e. let none : i ≡ 0 = omega arith in nil_cons 24 [] (subst (λ n. get_or {A = List ℕ} [] n [] ≡ 24 ∷ []) none e)
+endless_start (x ∷ xs) starts = endless_first (x ∷ xs) x refl starts
 
 pub endless_next : (entries : List (List ℕ)) (place : ℕ) (bytes : List ℕ) → place < length entries → bytes ≡ get_or entries place bytes → IsEndless entries place → bytes ≢ 24 ∷ [] → IsEndless entries (place + 1)
 endless_next entries place bytes within is endless other = below_more (λ i. get_or entries i [] ≡ 24 ∷ [] → ⊥) place endless (λ e. other (sym (here_is entries place bytes within is) ∙ e))

@@ -1,5 +1,5 @@
 -- What can stand behind what in the run of pieces of a state that can be restored (private calls only).
-use Rattle.std.specs.Prelude.{◌≡◌, ℕ, ◌+◌, ◌<◌, ◌≤◌, ⊤, chars, ◌==◌, ◌&&◌, ◌||◌, Bool, true, false, List, [], ◌∷◌, ◌++◌, length, map, take, get_or, nat_lt, nat_le, bytes_eq, Option, Some, None, suc, zero, if◌then◌else◌}
+use Rattle.std.specs.Prelude.{◌≡◌, ◌⊎◌, ℕ, ◌+◌, ◌<◌, ◌≤◌, ⊤, chars, ◌==◌, ◌&&◌, ◌||◌, Bool, true, false, List, [], ◌∷◌, ◌++◌, length, map, take, get_or, slice_get, nat_lt, nat_le, bytes_eq, Option, Some, None, suc, zero, if◌then◌else◌}
 use Rattle.std.specs.Arc.{arc_value}
 use Rattle.std.specs.List.{list_any}
 use Rattle.entry_bytes.specs.declared.entry.Entry.{Entry}
@@ -14,11 +14,25 @@ use Rattle.project_state.specs.declared.entries.founding.Founding.{Founding}
 use Rattle.command_bytes.specs.CommandBytes.{list_bytes, scripts_bytes}
 use Rattle.project_machine.specs.Entries.{document_piece, first_piece, has_draft, pieces_of, verdict_bytes}
 use Rattle.project_machine.specs.Legal.{IsAccepted, IsRowKept, IsSnapshotKept, IsSound, LayerObeys}
+use Rattle.project_machine.specs.Opening.{IsBegun, IsUnopened}
+use Rattle.project_machine.specs.People.{comes_before}
 use Rattle.project_machine.specs.ProjectState.{Row, ProjectState, Snapshot, annotators, document, is_annotator}
 use Rattle.project_book.specs.declared.restoring.so_far.Before.{Before}
 use Rattle.project_book.specs.declared.restoring.so_far.Before.TheVariants as before
 use Rattle.project_book.specs.declared.restoring.so_far.SoFar.{SoFar}
 use Rattle.project_book.specs.declared.restoring.known.Known.{Known}
+use Rattle.project_book.specs.declared.restoring.row_order.RowAt.{RowAt}
+
+-- entries begin with a run of pieces: the first byte of the first is that of a whole state
+abbrev pub StartsRun : List (List ℕ) → Type 0
+StartsRun entries = (first : List ℕ) → slice_get entries 0 ≡ Some first → slice_get first 0 ≡ Some 16
+
+-- no history begins with the entries up to this number, from 1; or it is the one past the last, and no history has just these entries, as where a run lacks its end
+pub record IsNoneUpTo (entries : List (List ℕ)) (n : ℕ) : Type 0 where
+  pub some : 0 < n
+  pub within : n ≤ length entries + 1
+  pub unbegun : n ≤ length entries → IsBegun (take n entries) → ⊥
+  pub unopened : n ≡ length entries + 1 → IsUnopened entries
 
 -- ---- how far a run has come
 
@@ -248,6 +262,53 @@ abbrev pub doc_wanted : Before → Option ℕ
 doc_wanted (before.Row doc revision) = Some doc
 doc_wanted (before.Shot doc wanted) = Some doc
 doc_wanted _ = None
+
+-- ---- names of documents
+
+-- the name of the document whose piece an entry is
+abbrev pub name_of : Entry → Option (List ℕ)
+name_of (entry.Document name text) = Some name
+name_of _ = None
+
+-- bytes are those of the piece of a document of this name
+pub record HasName (bytes name : List ℕ) : Type 0 where
+  pub piece : Entry
+  pub entered : IsEntry piece
+  pub is : entry_bytes piece ≡ bytes
+  pub tells : name_of piece ≡ Some name
+
+-- between the first piece and a place stand those of documents of these names, and nothing else
+pub record AreNamesBefore (entries : List (List ℕ)) (place : ℕ) (names : List (List ℕ)) : Type 0 where
+  pub count : length names + 1 ≡ place
+  pub each : (doc : ℕ) → doc < length names → HasName (get_or entries (doc + 1) []) (get_or names doc [])
+
+-- ---- the order of rows
+
+-- whose row an entry is the piece of: the number of the document, and the annotator
+abbrev pub row_of : Entry → Option (ℕ × List ℕ)
+row_of (entry.Row doc who revision flags) = Some (doc, who)
+row_of _ = None
+
+-- a row comes before another: it is of an earlier document, or of the same one and by name
+abbrev pub RowBefore : ℕ × List ℕ → ℕ × List ℕ → Type 0
+RowBefore a b = (a.0 < b.0) ⊎ ((a.0 ≡ b.0) × (comes_before a.1 b.1 ≡ true))
+
+-- bytes are those of the piece of this row
+pub record HasRow (bytes : List ℕ) (row : ℕ × List ℕ) : Type 0 where
+  pub piece : Entry
+  pub entered : IsEntry piece
+  pub is : entry_bytes piece ≡ bytes
+  pub tells : row_of piece ≡ Some row
+
+-- a row does not come behind the last one
+abbrev pub IsNotBehind : Option RowAt → ℕ × List ℕ → Type 0
+IsNotBehind None row = ⊥
+IsNotBehind (Some last) row = RowBefore (last.doc, last.who) row → ⊥
+
+-- the piece of the last row, where there is one, stands before a place
+abbrev pub StandsBefore : List (List ℕ) → ℕ → Option RowAt → Type 0
+StandsBefore entries place None = ⊤
+StandsBefore entries place (Some last) = (i : ℕ) × (i < place) × HasRow (get_or entries i []) (last.doc, last.who)
 
 -- ---- what is tested
 

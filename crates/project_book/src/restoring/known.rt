@@ -1,5 +1,5 @@
 //! What the first piece of a run tells of the state.
-ghost use Rattle.std.specs.Prelude.{IfOk};
+ghost use Rattle.std.specs.Prelude.{◌≡◌, ◌⊎◌, ◌<◌, IfOk, length, true};
 ghost use Rattle.project_book.specs.Replaying.{IsReading};
 ghost use Rattle.project_book.specs.Restoring.Following.{IsFoundedWith, IsKnown, IsKnownBy, IsKnownOf};
 
@@ -42,6 +42,19 @@ fn founded_with(alloc: Global, conf: &Text, people: &PersonList) -> Result<Optio
     Ok(told)
 }
 
+/// Whether there are snapshots, but no document, or fewer than two annotators.
+fn is_lacking(documents: u32, snapshots: u64, annotators: &[Slug]) -> bool
+    ensures { result ≡ true → (0 < snapshots) × ((documents ≡ 0) ⊎ (length annotators.now < 2)) }
+{
+    if snapshots == 0 {
+        return false;
+    }
+    if documents == 0 {
+        return true;
+    }
+    annotators.len() < 2
+}
+
 /// What a first piece of these fields tells, where a state has it.
 fn known_with(
     alloc: Global,
@@ -60,6 +73,9 @@ fn known_with(
         return Ok(None);
     };
     let names = annotator_names(alloc, people.items())?;
+    if is_lacking(documents, snapshots, names.as_slice()) {
+        return Ok(None);
+    }
     let Founding {
         conf,
         roster: _,

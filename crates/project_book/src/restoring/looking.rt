@@ -1,14 +1,18 @@
 //! Where a run of pieces is at fault.
 //!
 //! A run of which no state is read is looked at piece by piece. The piece that is named is one with which no state
-//! goes on whose first pieces are those before it. Whether it is the first such is not said.
-ghost use Rattle.std.specs.Prelude.{◌≡◌, ◌≢◌, [], ◌∷◌, IfOk, IfSome, Some, false, slice_get};
-ghost use Rattle.project_book.specs.Opening.{IsRunFault, StartsRun};
+//! goes on whose first pieces are those before it; and these are gone on with to a state (`begun.rt`), so it is the first
+//! such.
+ghost use Rattle.std.specs.Prelude.{◌≡◌, ◌≢◌, ◌⊎◌, [], ◌∷◌, IfOk, IfSome, Some, false, slice_get, true};
+ghost use Rattle.project_machine.specs.Opening.{IsBadEntry};
 ghost use Rattle.project_book.specs.Replaying.{IsReading};
-ghost use Rattle.project_book.specs.Restoring.Following.{IsKnownBy, IsLook};
+ghost use Rattle.project_book.specs.Restoring.Following.{IsKnownBy, IsLook, IsNoneUpTo, StartsRun};
 
 use crate::replaying::are_same;
+use crate::restoring::begun::begins_run;
+use crate::restoring::doubled::doubled_name;
 use crate::restoring::known::{Known, known_by};
+use crate::restoring::row_order::misplaced_row;
 use crate::restoring::said_lines::lines_stand;
 use crate::restoring::so_far::{Before, SoFar, behind, fits};
 use ann_writer::written_layers_are_utf8;
@@ -21,7 +25,7 @@ use std::alloc::Global;
 const END_TAG: u8 = 24;
 
 /// Whether bytes are those of the last piece of a run.
-fn is_end(bytes: &[u8]) -> bool
+pub(crate) fn is_end(bytes: &[u8]) -> bool
     ensures other { result ≡ false → bytes.now ≢ 24 ∷ [] }
 {
     are_same(bytes, &[END_TAG])
@@ -61,7 +65,7 @@ fn look_on(
     requires first { slice_get entries.now 0 ≡ Some first.now }
     requires begins { StartsRun entries.now }
     requires known { IsKnownBy first.now (Some known.now) }
-    ensures { IfOk result (λ found. IfSome found (IsRunFault entries.now)) }
+    ensures { IfOk result (λ found. IfSome found (IsNoneUpTo entries.now)) }
 {
     entries_are_told_apart();
     sound_configurations_are_read_back();
@@ -86,11 +90,11 @@ fn look_on(
     Ok(Some(entries.len() + 1))
 }
 
-/// The piece at which the run of pieces is at fault with which some entries begin, or the number past the last entry
-/// where the run lacks its end. `None` where none is found. Cost: the bytes of the run.
-pub(crate) fn fault_in(alloc: Global, entries: &[Bytes]) -> Result<Option<usize>, Memory>
+/// A piece, by its number, up to which no state has the run of pieces with which some entries begin, or the number past
+/// the last entry where the run lacks its end. `None` where none is found. Cost: the bytes of the run.
+fn fault_in(alloc: Global, entries: &[Bytes]) -> Result<Option<usize>, Memory>
     requires { StartsRun entries.now }
-    ensures { IfOk result (λ found. IfSome found (IsRunFault entries.now)) }
+    ensures { IfOk result (λ found. IfSome found (IsNoneUpTo entries.now)) }
 {
     let Some(first) = entries.first() else {
         return Ok(None);
@@ -98,5 +102,52 @@ pub(crate) fn fault_in(alloc: Global, entries: &[Bytes]) -> Result<Option<usize>
     match known_by(alloc, first)? {
         Some(known) => look_on(alloc, entries, first, &known),
         None => Ok(Some(1)),
+    }
+}
+
+/// The lesser of two numbers, where there are any.
+fn lesser(first: Option<usize>, second: Option<usize>) -> Option<usize>
+    ensures { (result ≡ first) ⊎ (result ≡ second) }
+{
+    match (first, second) {
+        (Some(one), Some(other)) => { if one < other { first } else { second } }
+        (None, _) => second,
+        (_, None) => first,
+    }
+}
+
+/// The lowest number that is found up to which no state has the run with which some entries begin.
+fn fault_found(alloc: Global, entries: &[Bytes]) -> Result<Option<usize>, Memory>
+    requires { StartsRun entries.now }
+    ensures { IfOk result (λ found. IfSome found (IsNoneUpTo entries.now)) }
+{
+    let looked = fault_in(alloc, entries)?;
+    let doubled = doubled_name(alloc, entries)?;
+    let misplaced = misplaced_row(alloc, entries)?;
+    Ok(lesser(lesser(looked, doubled), misplaced))
+}
+
+/// Whether the entry of this number, up to which no history begins, is the first such: those before it begin one.
+fn is_first(alloc: Global, entries: &[Bytes], number: usize) -> Result<bool, Memory>
+    requires { IsNoneUpTo entries.now number }
+    ensures { IfOk result (λ is. is ≡ true → IsBadEntry entries.now number) }
+{
+    let begins = begins_run(alloc, &entries[..number - 1])?;
+    Ok(begins)
+}
+
+/// The first piece at fault of the run with which some entries begin, by its number, or the number past the last entry
+/// where the run lacks its end. `None` where it is not found. Cost: the bytes of the run, and what `restore` says of it.
+pub(crate) fn first_fault(alloc: Global, entries: &[Bytes]) -> Result<Option<usize>, Memory>
+    requires { StartsRun entries.now }
+    ensures { IfOk result (λ found. IfSome found (IsBadEntry entries.now)) }
+{
+    let Some(number) = fault_found(alloc, entries)? else {
+        return Ok(None);
+    };
+    if is_first(alloc, entries, number)? {
+        Ok(Some(number))
+    } else {
+        Ok(None)
     }
 }

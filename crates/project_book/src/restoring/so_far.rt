@@ -123,7 +123,7 @@ pub(crate) fn behind(so_far: SoFar, entry: &Entry) -> SoFar
 }
 
 /// Whether a name is one of some.
-fn is_named(names: &[Slug], who: &Slug) -> bool
+pub(crate) fn is_named(names: &[Slug], who: &Slug) -> bool
     ensures { result ≡ list_any (bytes_eq who.now) names.now }
 {
     for name in names {

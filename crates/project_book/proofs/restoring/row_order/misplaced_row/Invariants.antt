@@ -1,0 +1,5 @@
+use Rattle.project_book.specs.Restoring.Following.{IsEndless, StandsBefore}
+use Rattle.project_book.proofs.restoring.row_order.misplaced_row.Given as goal
+
+abbrev pub invariant-loop-place : goal.invariant-loop-place
+invariant-loop-place l = IsEndless l.entries l.place × StandsBefore l.entries l.place l.last
