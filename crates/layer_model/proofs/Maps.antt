@@ -1,5 +1,5 @@
 -- A map of std and the finite map of its entries.
-use Rattle.std.proofs.Common.{◌≡◌, ℕ, Bool, true, false, ◌&&◌, List, [], ◌∷◌, refl, sym, ◌∙◌, ap, subst, Some, None, cond, T}
+use Rattle.std.proofs.Common.{◌≡◌, ℕ, Bool, true, false, ◌&&◌, List, [], ◌∷◌, refl, sym, ◌∙◌, ap, subst, Some, None, is_some, cond, T}
 use Rattle.std.specs.Ordering.{nat_cmp, is_lt}
 use Rattle.std.specs.Cmp.{nat_cmp_total, eq_by_cmp_equiv}
 use Rattle.std.specs.List.{AllByRecursion}
@@ -59,3 +59,7 @@ same_list es h =
     let same : from_entries {R = nat_cmp} es ≡ from_sorted es =
     same_map nat_cmp_total nat_cmp-IsAntisymmetric _ _ (λ q. get-from_entries nat_cmp_total es q ∙ sym (get-from_sorted nat_cmp es q up)) in
     ap finite.entries same ∙ entries-from_sorted nat_cmp es up
+
+-- a number that the entries do not have
+pub missing : {X : Type 0} (q : ℕ) (es : List (ℕ × X)) → lookup (is_at (nat_cmp q)) es ≡ None → finite.contains_key (from_entries {R = nat_cmp} es) q ≡ false
+missing q es none = ap is_some (looked_up q es ∙ none)

@@ -1,5 +1,5 @@
 //! A layer.
-ghost use Rattle.std.specs.Prelude.{◌≡◌, ◌≤◌, ◌<◌, ℕ, true, false, length, IfOk, OnOk, OnErr};
+ghost use Rattle.std.specs.Prelude.{◌≡◌, ◌≤◌, ◌<◌, ℕ, true, false, length, Some, IfOk, OnOk, OnErr};
 ghost use Rattle.std.specs.Option.{option_copied};
 ghost use Rattle.std.specs.FinMap as finite;
 ghost use Rattle.std.specs.List.{list_any};
@@ -187,6 +187,29 @@ impl Layer {
             },
             Mark::Normal(normal) => self.normals.put(id.number, normal),
             Mark::Note(note) => self.notes.put(id.number, note),
+        }
+    }
+
+    /// Puts another annotation under an ID that the layer has, and answers the one that was there. It takes
+    /// no memory. Cost: as `span`.
+    pub fn replace(&mut self, id: AnnId, mark: Mark) -> Mark
+        requires fits { is_of_kind id.kind mark ≡ true }
+        requires there { has self.old id ≡ true }
+        ensures replaced { mark_at self.old id ≡ Some result }
+        ensures rest { self.new ≡ with_mark self.old id mark }
+    {
+        match mark {
+            Mark::Span(span) => Mark::Span(self.spans.replace(id.number, span)),
+            Mark::Event(event) => Mark::Event(self.events.replace(id.number, event)),
+            Mark::Relation(relation) => {
+                Mark::Relation(self.relations.replace(id.number, relation))
+            }
+            Mark::Attribute(attribute) => Mark::Attribute(match id.kind {
+                Kind::Legacy => self.legacy.replace(id.number, attribute),
+                _ => self.attributes.replace(id.number, attribute),
+            }),
+            Mark::Normal(normal) => Mark::Normal(self.normals.replace(id.number, normal)),
+            Mark::Note(note) => Mark::Note(self.notes.replace(id.number, note)),
         }
     }
 

@@ -1,5 +1,5 @@
 //! Annotations of one letter by their numbers.
-ghost use Rattle.std.specs.Prelude.{◌≡◌, ◌≤◌, ℕ, true, OnOk, OnErr};
+ghost use Rattle.std.specs.Prelude.{◌≡◌, ◌≤◌, ℕ, true, Some, OnOk, OnErr};
 ghost use Rattle.std.specs.Option.{option_copied};
 ghost use Rattle.std.specs.Ordering.{nat_cmp};
 ghost use Rattle.std.specs.FinMap as finite;
@@ -107,5 +107,18 @@ impl<V: Drop> Numbered<V> {
     {
         self.map.insert(number, value)?;
         Ok(())
+    }
+
+    /// Puts another annotation under a number that has one, and answers the one that was there. Cost: as `get`.
+    pub fn replace(&mut self, number: u32, value: V) -> V
+        requires there { finite.contains_key self.old number ≡ true }
+        ensures replaced { finite.get self.old number ≡ Some result }
+        ensures rest { self.new ≡ finite.insert self.old number value }
+    {
+        match self.map.insert(number, value) {
+            Ok(Some(before)) => before,
+            Ok(None) => unreachable!(),
+            Err(_) => unreachable!(),
+        }
     }
 }

@@ -1,5 +1,6 @@
 -- The 10,001st annotation of a sort, and the 10,001st class.
 use Rattle.std.proofs.Common.{◌≡◌, ◌≢◌, ℕ, ◌+◌, ◌-◌, ◌<◌, ◌≤◌, ◌==◌, zero, suc, Bool, true, false, List, [], ◌∷◌, ◌++◌, map, length, slice_get, refl, sym, ◌∙◌, ap, subst, Option, Some, None, arith, tests}
+use Rattle.std.proofs.lemmas.Option.{slice_get_past}
 use Rattle.std.specs.Option.{option_or, option_map, option_map_or, is_some}
 use Rattle.std.specs.List.{AllByRecursion}
 use Rattle.std.specs.Map.{keys_of}
@@ -230,3 +231,11 @@ index_here rest later n v left whole is none before = sym (ap (λ r. slice_get (
 
 pub index_past : {V : Type 0} (rest : List (ℕ × V)) (left : ℕ) (whole : Option ℕ) → rest ≡ [] → slice_get (keys_of rest) left ≡ whole → None ≡ whole
 index_past rest left whole is before = sym (ap (λ r. slice_get (keys_of r) left) is) ∙ before
+
+-- an index behind all of a map's numbers
+pub index_over : {V : Type 0} (es : List (ℕ × V)) (m : finite.FinMap nat_cmp V) (index : ℕ) → finite.entries m ≡ es → length es ≤ index → None ≡ slice_get (finite.keys m) index
+index_over es m index is few = sym (ap (λ r. slice_get (keys_of r) index) is ∙ slice_get_past (keys_of es) index (let same = as_many es in omega arith))
+  where
+    as_many : {V : Type 0} (es : List (ℕ × V)) → length (keys_of es) ≡ length es
+    as_many [] = refl
+    as_many (e ∷ es) = ap suc (as_many es)

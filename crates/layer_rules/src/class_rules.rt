@@ -13,8 +13,9 @@ use conf_model::Conf;
 use layer_model::{Class, Flaw, FlawPlace, Layer, Rule};
 use mark_base::{AnnId, RelId};
 
-/// The first of the rules on one class that it breaks.
-pub(crate) fn class_rule(conf: &Conf, layer: &Layer, class: &Class) -> Option<Rule>
+/// The first of the rules on one class, and on what it names, that it breaks: those of the numbers 1, 2, 6
+/// and 7. Cost: its members, each a look-up.
+pub fn class_rule(conf: &Conf, layer: &Layer, class: &Class) -> Option<Rule>
     ensures { result ≡ class_rule conf.now layer.now class.now }
 {
     unknown_relation(conf, class.kind)
@@ -60,7 +61,7 @@ pub fn are_bad_members(conf: &Conf, layer: &Layer, kind: RelId, ids: &[AnnId]) -
 }
 
 /// The rule on members that do not make a class. Cost: the square of the number of members.
-fn equiv_members(conf: &Conf, layer: &Layer, class: &Class) -> Option<Rule>
+pub fn equiv_members(conf: &Conf, layer: &Layer, class: &Class) -> Option<Rule>
     ensures { result ≡ equiv_members conf.now layer.now class.now }
 {
     let ids = class.members.items();

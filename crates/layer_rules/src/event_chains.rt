@@ -96,7 +96,7 @@ fn first_deep(layer: &Layer, held: &BTreeMap<u32, ()>) -> Option<Flaw>
 
 /// The flaw of the first event that begins a chain of more than 16 events. Cost: sixteen times the
 /// arguments of all events, each a look-up.
-pub(crate) fn deep_flaw(alloc: Global, layer: &Layer) -> Result<Option<Flaw>, Memory>
+pub fn deep_flaw(alloc: Global, layer: &Layer) -> Result<Option<Flaw>, Memory>
     ensures { IfOk result (λ flaw. flaw ≡ first_place (at_too_deep layer.now) (places layer.now)) }
 {
     layer.keeps();

@@ -14,10 +14,14 @@ use std::collections::BTreeMap;
 /// The annotations of one sort, and the classes, of the fullest layer.
 const MOST: u32 = 10_000;
 
-/// The number of the annotation of this index among those of a letter. Cost: the index.
+/// The number of the annotation of this index among those of a letter. Cost: the index, where there are
+/// more.
 fn number_at<V>(map: &BTreeMap<u32, V>, index: u32) -> Option<u32>
     ensures { result ≡ slice_get (finite.keys (finite.from_entries {R = nat_cmp} map.now.entries)) index }
 {
+    if map.len() <= index as usize {
+        return None;
+    }
     let mut left = index;
     for (number, _) in map {
         if left == 0 {
@@ -53,8 +57,8 @@ fn full_classes(classes: &[Class]) -> Option<Flaw>
 }
 
 /// The flaw of the first annotation or class that is the 10,001st of its sort. Attributes count under
-/// both letters together.
-pub(crate) fn full_flaw(layer: &Layer) -> Option<Flaw>
+/// both letters together. Cost: a few counts, where nothing is too much; else the annotations of a sort.
+pub fn full_flaw(layer: &Layer) -> Option<Flaw>
     ensures { result ≡ first_place (at_layer_full layer.now) (places layer.now) }
 {
     layer.keeps();

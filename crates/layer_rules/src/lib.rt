@@ -24,6 +24,7 @@ mod layer_check;
 mod layer_full;
 mod lowest_flaw;
 mod mark_rules;
+mod one_annotation;
 mod overlaps;
 mod repeats;
 mod rules_by_kind;
@@ -38,14 +39,17 @@ mod worked_rows;
 pub use crate::bad_texts::{is_bad_entry, is_bad_store, is_bad_text};
 pub use crate::carried_by_rules::{carried_by_rule, id_text};
 pub use crate::check_fault::CheckFault;
-pub use crate::class_rules::are_bad_members;
+pub use crate::class_rules::{are_bad_members, class_rule, equiv_members};
 pub use crate::commit::may_commit;
+pub use crate::event_chains::deep_flaw;
 pub use crate::laws::{unflawed_layers, well_formed_layers_cohere};
 pub use crate::layer_check::check;
+pub use crate::layer_full::full_flaw;
 pub use crate::mark_rules::{
     LONGEST_REACH, barred_class, barred_type, last_end, missing, missing_ids, unwanted,
     unwanted_members, where_so,
 };
+pub use crate::one_annotation::{annotation_rule, text_rule};
 pub use crate::targets::{
     is_argument, is_attribute_target, is_event_type, is_id, is_member, is_trigger, target_of,
 };

@@ -30,7 +30,7 @@ pub(crate) fn first<V, J: Judge<V>>(judge: &J, kind: Kind, map: &BTreeMap<u32, V
 
 /// The rule on texts.
 #[derive(Clone, Copy)]
-struct Texts;
+pub(crate) struct Texts;
 
 impl Judge<Normal> for Texts {
     ghost use Rattle.layer_model.specs.declared.mark.Mark.TheVariants as marked;

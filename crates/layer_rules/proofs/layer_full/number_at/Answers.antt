@@ -1,8 +1,12 @@
-use Rattle.std.proofs.Common.{◌≡◌, sym, ◌∙◌, ap, slice_get}
+use Rattle.std.proofs.Common.{◌≡◌, sym, ◌∙◌, ap, slice_get, arith}
 use Rattle.std.specs.Map.{keys_of}
 use Rattle.layer_model.proofs.Maps.{same_list}
-use Rattle.layer_rules.proofs.FullLemmas.{index_here, index_past}
+use Rattle.layer_rules.proofs.FullLemmas.{index_here, index_over, index_past}
 use Rattle.layer_rules.proofs.layer_full.number_at.Goals as goal
+
+pub returns-then-len-index : goal.returns-then-len-index
+returns-then-len-index g c =
+    index_over c.args.map.now.entries _ c.args.index (same_list c.args.map.now.entries c.len.ensures.ordered) (let few = c.if-len-index.true in let count = c.len.ensures.len in omega arith)
 
 pub returns-then-left-eq0 : goal.returns-then-left-eq0
 returns-then-left-eq0 g c =
