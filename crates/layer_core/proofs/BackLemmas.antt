@@ -1,5 +1,5 @@
 -- What stood under an ID leads back to the layer before, where no other place changed.
-use Rattle.std.proofs.Common.{◌≡◌, ℕ, ◌==◌, List, [], ◌∷◌, ◌++◌, length, filter, Bool, true, false, cond, Option, Some, None, option_map, option_and_then, is_some, refl, sym, ◌∙◌, ap, subst}
+use Rattle.std.proofs.Common.{◌≡◌, ℕ, ◌==◌, [], ◌∷◌, ◌++◌, length, filter, Bool, true, false, cond, Option, Some, None, option_map, option_and_then, is_some, refl, sym, ◌∙◌, ap, subst}
 use Rattle.std.specs.Prelude.{IfSome}
 use Rattle.std.specs.Option.{option_map_or}
 use Rattle.std.specs.Ordering.{nat_cmp, eq_by_cmp, is_eq}
@@ -11,7 +11,6 @@ use Rattle.std.specs.declared.cmp.Ordering.TheVariants.{Less, Equal, Greater}
 use Rattle.mark_base.specs.declared.ann_id.AnnId.{AnnId}
 use Rattle.mark_base.specs.declared.ann_id.Kind.{Kind}
 use Rattle.mark_base.specs.declared.ann_id.Kind.TheVariants as letter
-use Rattle.mark_base.specs.ReadIds.{id_at}
 use Rattle.mark_base.specs.declared.table_places.TypeId.{TypeId}
 use Rattle.type_hierarchy.specs.TypeTrees.{type_named}
 use Rattle.conf_model.specs.Configurations.{Configuration}
@@ -25,17 +24,15 @@ use Rattle.layer_model.specs.declared.note.Note.{Note}
 use Rattle.layer_model.specs.declared.mark.Mark.{Mark}
 use Rattle.layer_model.specs.declared.mark.Mark.TheVariants as marked
 use Rattle.layer_model.specs.Annotations.{Annotations}
-use Rattle.layer_model.specs.Layers.{is_of_kind, mark_at, mark_of, with_mark, with_marked, without, without_number}
+use Rattle.layer_model.specs.Layers.{is_of_kind, mark_of, with_mark, with_marked, without, without_number}
 use Rattle.layer_core.specs.declared.command.Command.{Command}
 use Rattle.layer_core.specs.declared.command.Command.TheVariants as ask
-use Rattle.layer_model.specs.Classes.{joined, parted, rank}
+use Rattle.layer_model.specs.Classes.{joined, parted}
 use Rattle.layer_model.specs.LayerIds.{ids_of}
-use Rattle.layer_model.proofs.ClassGone.{is_held}
 use Rattle.layer_core.specs.Backs.{with_this, DiffersUnder, IsDraftOf}
 use Rattle.layer_core.specs.CommandRules.{arg_named, args_named, attribute_on, event_named, first_naming, is_in_trigger, is_span_letter}
 use Rattle.layer_rules.specs.AttributeValues.{Valued, Undeclared, Declared, value_of}
 use Rattle.layer_core.specs.MadeLayers.{Draft, draft, event_of, falls, gone, is_note_on, is_reference_to, lowest, span_of, with_args, with_attribute, with_changed, with_less, with_new, without_all, without_first, valued_draft}
-use Rattle.layer_core.proofs.GoneLemmas.{gone_absent}
 
 some_none : {X : Type 0} {x : X} → Some x ≡ None → ⊥
 some_none e = cc
@@ -146,7 +143,7 @@ same_back l letter.Legacy n = legacy_back l n l.legacy (λ q e. refl)
 same_back l letter.Normal n = normal_back l n l.normals (λ q e. refl)
 same_back l letter.Note n = note_back l n l.notes (λ q e. refl)
 
-marked_back : (l : Annotations) (kind : Kind) (n : ℕ) (mark : Mark) → with_this (with_marked l kind n mark) kind n (mark_of l kind n) ≡ l
+pub marked_back : (l : Annotations) (kind : Kind) (n : ℕ) (mark : Mark) → with_this (with_marked l kind n mark) kind n (mark_of l kind n) ≡ l
 marked_back l letter.Text n (marked.Span x) = text_back l n (finite.insert l.spans n x) (alike_inserted l.spans n x)
 marked_back l letter.Event n (marked.Event x) = event_back l n (finite.insert l.events n x) (alike_inserted l.events n x)
 marked_back l letter.Relation n (marked.Relation x) = relation_back l n (finite.insert l.relations n x) (alike_inserted l.relations n x)
@@ -265,21 +262,6 @@ drafts_change_one conf layer (ask.Purge id) = less_changes layer (without_all la
 drafts_change_one conf layer (ask.Load loaded) = less_changes layer loaded
 
 -- ---- the annotation that a command takes away
-
-removed_is : (b : Bool) (less : Annotations) (made : Draft) → cond b None (Some (with_less less)) ≡ Some made → made.layer ≡ less
-removed_is true less made e = absurd (some_none (sym e))
-removed_is false less made e = some_same (with_less less) made (λ d. d.layer ≡ less) e refl
-
-pub delete_removes : (id : AnnId) (layer : Annotations) (made : Draft) → IsDraftOf layer (ask.Delete id) made → made.layer ≡ gone layer id
-delete_removes id layer made drafts = removed_is (is_some (first_naming layer id)) (gone layer id) made drafts.1
-
-pub clear_removes : (id : AnnId) (layer : Annotations) (made : Draft) → IsDraftOf layer (ask.ClearAttribute id) made → made.layer ≡ gone layer id
-clear_removes id layer made drafts = removed_is (is_some (first_naming layer id)) (gone layer id) made drafts.1
-
--- where it stands in no class, nothing else differs
-pub alone_differs : (layer : Annotations) (id : AnnId) (made : Draft) → is_held (rank id) layer.classes ≡ false → made.layer ≡ gone layer id → DiffersUnder made.layer id layer
-alone_differs layer id made out is =
-    ap (λ l. with_this l id.kind id.number (mark_at layer id)) (is ∙ sym (gone_absent layer (without layer id) id out refl)) ∙ without_differs layer id
 
 pub changed_differs : (layer : Annotations) (command : Command) (made : Draft) (id : AnnId) → IsDraftOf layer command made → made.changed ≡ Some id → DiffersUnder made.layer id layer
 changed_differs layer command made id drafts e = subst (λ d. IfSome d (ChangesOne layer)) drafts.1 (drafts_change_one drafts.0 layer command) id e

@@ -1,5 +1,5 @@
--- Loops over entries, numbers that are free, and marks that are put in the place of others.
-use Rattle.std.proofs.Common.{◌≡◌, ℕ, ◌<◌, ◌≤◌, ◌==◌, ◌||◌, min, Bool, true, false, cond, T, List, [], ◌∷◌, Some, None, is_some, unwrap_or, refl, sym, ◌∙◌, ap, arith, tests}
+-- Numbers that are free, and marks that are put in the place of others.
+use Rattle.std.proofs.Common.{◌≡◌, ℕ, ◌<◌, ◌≤◌, ◌||◌, min, Bool, true, false, cond, T, List, [], ◌∷◌, Some, None, unwrap_or, refl, sym, ◌∙◌, ap, arith}
 use Rattle.std.specs.List.{list_any, AllByRecursion}
 use Rattle.std.specs.List.Sorted.{IsStrictlySortedBy}
 use Rattle.std.specs.Map.{keys_of}
@@ -15,25 +15,13 @@ use Rattle.mark_base.specs.declared.ann_id.Kind.TheVariants as letter
 use Rattle.mark_base.specs.declared.arguments.Arg.{Arg}
 use Rattle.mark_base.specs.declared.table_places.TypeId.{TypeId}
 use Rattle.layer_core.specs.MadeLayers.{with_new}
-use Rattle.layer_model.specs.declared.mark.Mark.{Mark}
 use Rattle.layer_model.specs.declared.mark.Mark.TheVariants as marked
 use Rattle.layer_model.specs.Annotations.{Annotations}
 use Rattle.layer_model.specs.Numbers.{NumbersFit, greatest_of}
-use Rattle.layer_model.specs.Layers.{IsLayer, count, greatest, has_number, is_of_kind, with_marked, without_number}
+use Rattle.layer_model.specs.Layers.{IsLayer, count, greatest, has_number}
 use Rattle.layer_model.proofs.Maps.{same_list}
 use Rattle.layer_model.proofs.Numbers.{few}
 use Rattle.layer_rules.proofs.PlaceLemmas.{is_less, left, right}
-
--- ---- some entry passes a test
-
-pub any_here : {X : Type 0} (p : X → Bool) (xs rest : List X) (x : X) (all : Bool) → xs ≡ x ∷ rest → p x ≡ true → list_any p xs ≡ all → true ≡ all
-any_here p xs rest x all is so e = sym (ap (list_any p) is ∙ ap (λ b. b || list_any p rest) so) ∙ e
-
-pub any_nowhere : {X : Type 0} (p : X → Bool) (xs : List X) (all : Bool) → xs ≡ [] → list_any p xs ≡ all → false ≡ all
-any_nowhere p xs all is e = sym (ap (list_any p) is) ∙ e
-
-pub same_number : (a b : ℕ) → a ≡ b → (a == b) ≡ true
-same_number a b e = search (arith, tests)
 
 -- ---- numbers that no ID has are free
 
@@ -58,34 +46,12 @@ above layer kept letter.Note n high = above_in layer.notes n kept.notes high
 
 -- ---- a mark in the place of another
 
-absent : {X : Type 0} (m : finite.FinMap nat_cmp X) (k : ℕ) → is_some (finite.get (finite.remove m k) k) ≡ false
-absent m k = ap is_some (get-remove nat_cmp_total m k k ∙ ap (λ r. cond (is_eq r) None (finite.get m k)) (tied_itself nat_cmp_total k))
-
-pub not_there : (l : Annotations) (kind : Kind) (n : ℕ) → has_number (without_number l kind n) kind n ≡ false
-not_there l letter.Text n = absent l.spans n
-not_there l letter.Event n = absent l.events n
-not_there l letter.Relation n = absent l.relations n
-not_there l letter.Attribute n = absent l.attributes n
-not_there l letter.Legacy n = absent l.legacy n
-not_there l letter.Normal n = absent l.normals n
-not_there l letter.Note n = absent l.notes n
-
 again : {X : Type 0} (m : finite.FinMap nat_cmp X) (k : ℕ) (v : X) → finite.insert (finite.remove m k) k v ≡ finite.insert m k v
 again {X} m k v =
     same_map nat_cmp_total nat_cmp-IsAntisymmetric _ _ (λ q.
     get-insert nat_cmp_total (finite.remove m k) k v q ∙ ap (cond (eq_by_cmp nat_cmp q k) (Some v)) (get-remove nat_cmp_total m k q)
     ∙ elim (eq_by_cmp nat_cmp q k) as (λ b. cond b (Some v) (cond b None (finite.get m q)) ≡ cond b (Some v) (finite.get m q)) [ true ↦ refl | false ↦ refl ]
     ∙ sym (get-insert nat_cmp_total m k v q))
-
-pub replaced : (l : Annotations) (kind : Kind) (n : ℕ) (mark : Mark) → is_of_kind kind mark ≡ true → with_marked (without_number l kind n) kind n mark ≡ with_marked l kind n mark
-replaced l letter.Text n (marked.Span x) fits = ap (λ m. let k : Annotations = record l { spans = m } in k) (again l.spans n x)
-replaced l letter.Event n (marked.Event x) fits = ap (λ m. let k : Annotations = record l { events = m } in k) (again l.events n x)
-replaced l letter.Relation n (marked.Relation x) fits = ap (λ m. let k : Annotations = record l { relations = m } in k) (again l.relations n x)
-replaced l letter.Attribute n (marked.Attribute x) fits = ap (λ m. let k : Annotations = record l { attributes = m } in k) (again l.attributes n x)
-replaced l letter.Legacy n (marked.Attribute x) fits = ap (λ m. let k : Annotations = record l { legacy = m } in k) (again l.legacy n x)
-replaced l letter.Normal n (marked.Normal x) fits = ap (λ m. let k : Annotations = record l { normals = m } in k) (again l.normals n x)
-replaced l letter.Note n (marked.Note x) fits = ap (λ m. let k : Annotations = record l { notes = m } in k) (again l.notes n x)
-replaced l kind n mark fits = absurd (let e : false ≡ true = fits in cc)
 
 -- ---- how many annotations there are, and the greatest of their numbers
 

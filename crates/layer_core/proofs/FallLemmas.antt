@@ -36,10 +36,10 @@ placed letter.Legacy = refl
 placed letter.Normal = refl
 placed letter.Note = refl
 
-is_equal : (a b : ℕ) → (a == b) ≡ true → a ≡ b
+pub is_equal : (a b : ℕ) → (a == b) ≡ true → a ≡ b
 is_equal a b e = search (arith, tests)
 
-equal : (a : ℕ) → (a == a) ≡ true
+pub equal : (a : ℕ) → (a == a) ≡ true
 equal a = search (arith, tests)
 
 apart_first : (a b m n : ℕ) → m ≤ 999999999 → n ≤ 999999999 → a * 1000000000 + m ≡ b * 1000000000 + n → a ≡ b
@@ -48,7 +48,7 @@ apart_first a b m n hm hn e = omega arith
 apart_last : (a b m n : ℕ) → m ≤ 999999999 → n ≤ 999999999 → a * 1000000000 + m ≡ b * 1000000000 + n → m ≡ n
 apart_last a b m n hm hn e = omega arith
 
-one_id : (a b : AnnId) → is_id a b ≡ true → a ≡ b
+pub one_id : (a b : AnnId) → is_id a b ≡ true → a ≡ b
 one_id a b e =
     let same = is_equal (id_place a) (id_place b) e in
     let places : letter_place a.kind ≡ letter_place b.kind = apart_first (letter_place a.kind) (letter_place b.kind) a.number b.number a.within b.within same in
@@ -62,7 +62,7 @@ any_same : {X : Type 0} (p q : X → Bool) → ((x : X) → p x ≡ q x) → (xs
 any_same p q same [] = refl
 any_same p q same (x ∷ xs) = ap (λ b. b || list_any p xs) (same x) ∙ ap (λ b. q x || b) (any_same p q same xs)
 
-filter_same : {X : Type 0} (p q : X → Bool) → ((x : X) → p x ≡ q x) → (xs : List X) → filter p xs ≡ filter q xs
+pub filter_same : {X : Type 0} (p q : X → Bool) → ((x : X) → p x ≡ q x) → (xs : List X) → filter p xs ≡ filter q xs
 filter_same p q same [] = refl
 filter_same p q same (x ∷ xs) = ap (λ b. cond b (x ∷ filter p xs) (filter p xs)) (same x) ∙ ap (λ ys. cond (q x) (x ∷ ys) ys) (filter_same p q same xs)
 
@@ -86,7 +86,7 @@ none_among : (b : Bool) → false ≡ (b && false)
 none_among true = refl
 none_among false = refl
 
-kept_among : (p : AnnId → Bool) (named : AnnId) (ids : List AnnId) → list_any (is_id named) (filter p ids) ≡ (p named && list_any (is_id named) ids)
+pub kept_among : (p : AnnId → Bool) (named : AnnId) (ids : List AnnId) → list_any (is_id named) (filter p ids) ≡ (p named && list_any (is_id named) ids)
 kept_among p named [] = none_among (p named)
 kept_among p named (x ∷ xs) =
     any_cond (is_id named) (p x) x (filter p xs)
@@ -94,7 +94,7 @@ kept_among p named (x ∷ xs) =
 
 -- ---- an ID that is sought in an ordered set
 
-turned : (a b : ℕ) → (a == b) ≡ (b == a)
+pub turned : (a b : ℕ) → (a == b) ≡ (b == a)
 turned a b = grind (arith, nat_tests)
 
 pub among_ids : (id : AnnId) (ids : List AnnId) → is_among id ids ≡ list_any (is_id id) ids
@@ -171,7 +171,7 @@ of_letter q layer letter.Legacy e = skip q layer letter.Text after_text (skip q 
 of_letter q layer letter.Normal e = skip q layer letter.Text after_text (skip q layer letter.Event after_event (skip q layer letter.Relation after_relation (skip q layer letter.Attribute after_attribute (skip q layer letter.Legacy after_legacy (here q layer letter.Normal after_normal e)))))
 of_letter q layer letter.Note e = skip q layer letter.Text after_text (skip q layer letter.Event after_event (skip q layer letter.Relation after_relation (skip q layer letter.Attribute after_attribute (skip q layer letter.Legacy after_legacy (skip q layer letter.Normal after_normal (here q layer letter.Note [] e))))))
 
-among : (layer : Annotations) (id : AnnId) (mark : Mark) → mark_at layer id ≡ Some mark → list_any (is_id id) (ids_of layer) ≡ true
+pub among : (layer : Annotations) (id : AnnId) (mark : Mark) → mark_at layer id ≡ Some mark → list_any (is_id id) (ids_of layer) ≡ true
 among layer id mark e = of_letter (is_id id) layer id.kind (in_letter id (numbers layer id.kind) (stands layer id.kind id.number mark e))
 
 unmarked : (layer : Annotations) (id : AnnId) → list_any (is_id id) (ids_of layer) ≡ false → mark_at layer id ≡ None

@@ -1,6 +1,6 @@
 -- What carrying out a command comes to, from its steps.
 use Rattle.std.proofs.Common.{◌≡◌, ℕ, ◌<◌, ◌≤◌, zero, suc, List, [], ◌∷◌, length, slice_get, Option, Some, None, Ok, Err, option_and_then, refl, sym, ◌∙◌, ap, subst, arith}
-use Rattle.std.specs.Prelude.{IfOk, IfSome, OnErr, OnOk, Result, option_map}
+use Rattle.std.specs.Prelude.{IfOk, IfErr, OnErr, OnOk, Result}
 use Rattle.mark_base.specs.declared.ann_id.AnnId.{AnnId}
 use Rattle.conf_model.specs.Configurations.{Configuration}
 use Rattle.layer_model.specs.declared.class.Class.{Class}
@@ -11,9 +11,14 @@ use Rattle.layer_core.specs.declared.command.Command.{Command}
 use Rattle.layer_rules.specs.LayerRules.{classes_full}
 use Rattle.layer_rules.specs.WellFormed.{IsWellFormed}
 use Rattle.layer_core.specs.MadeLayers.{Draft, draft}
-use Rattle.layer_core.specs.declared.draft.Draft as kept
-use Rattle.layer_core.specs.DraftShows.{draft_of}
-use Rattle.layer_core.specs.Backs.{IsDraftOf}
+use Rattle.layer_core.specs.declared.back.Back.{Back}
+use Rattle.layer_core.specs.declared.work.Done.{Done}
+use Rattle.layer_core.specs.declared.refusal.Refusal.{Refusal}
+use Rattle.layer_core.specs.declared.refusal.Refusal.TheVariants as refused
+use Rattle.layer_core.specs.Backs.{IsWayBack}
+use Rattle.layer_core.specs.OwnRules.{own_rule}
+use Rattle.layer_core.specs.Outcomes.{IsOutcome}
+use Rattle.layer_core.specs.Works.{IsRefusal}
 use Rattle.layer_core.specs.Commands.{Applied, answer_of, applied_of, apply, refusal}
 use Rattle.layer_core.proofs.CommandLemmas.{commands_keep}
 
@@ -51,16 +56,33 @@ done_by conf characters layer command made drafts is =
 pub taken_as : (applied : Applied) (layer : Annotations) (made : Option AnnId) → layer ≡ applied.layer → made ≡ applied.made → applied ≡ record { layer = layer; made = made }
 taken_as applied layer made ls ms = ap (λ l. let a : Applied = record { layer = l; made = applied.made } in a) (sym ls) ∙ ap (λ m. let a : Applied = record { layer = layer; made = m } in a) (sym ms)
 
-pub kept_by : (conf : Configuration) (characters : ℕ) (layer : Annotations) (command : Command) (made : Option Draft) (new : Annotations) → IsWellFormed conf characters layer
-    → apply conf characters layer command ≡ Ok (applied_of layer made) → new ≡ (applied_of layer made).layer → IsWellFormed conf characters new
-kept_by conf characters layer command made new well done is =
-    subst (IsWellFormed conf characters) (sym is) (subst (λ r. IfOk r (λ applied. IsWellFormed conf characters applied.layer)) done (commands_keep conf characters layer command well))
+-- what an outcome says of a command
+pub record Carries (conf : Configuration) (characters : ℕ) (layer : Annotations) (command : Command) (new : Annotations) (outcome : Result (Done × Back) Refusal) : Type 0 where
+  pub done : IfOk outcome (λ told. apply conf characters layer command ≡ Ok (record { layer = new; made = told.0.made }))
+  pub back : IfOk outcome (λ told. IsWayBack told.1 new layer)
+  pub refused : IfErr outcome (IsRefusal conf characters layer command)
+  pub kept : OnErr outcome (new ≡ layer)
 
--- what was made for a command is its draft
-pub drafted_by : (conf : Configuration) (layer : Annotations) (command : Command) (made : Option kept.Draft) → option_map draft_of made ≡ draft conf layer command
-    → IfSome made (λ m. IsDraftOf layer command (draft_of m))
-drafted_by conf layer command None e = tt
-drafted_by conf layer command (Some m) e = (conf, sym e)
+pub carries : (conf : Configuration) (characters : ℕ) (layer : Annotations) (command : Command) (new : Annotations) (outcome : Result (Done × Back) Refusal)
+    → IsOutcome conf characters (own_rule conf characters layer command) (draft conf layer command) layer new outcome → Carries conf characters layer command new outcome
+carries conf characters layer command new (Ok told) is =
+    record {
+      done =
+          done_by conf characters layer command (draft conf layer command) refl (sym is.unbroken)
+          ∙ ap Ok (taken_as (applied_of layer (draft conf layer command)) new told.0.made is.layer is.made);
+      back = is.back;
+      refused = tt;
+      kept = tt;
+    }
+carries conf characters layer command new (Err (refused.Rule rule)) is = record { done = tt; back = tt; refused = refused_by conf characters layer command rule (sym is.0); kept = is.1 }
+carries conf characters layer command new (Err refused.Memory) is = record { done = tt; back = tt; refused = tt; kept = is }
+
+-- the layer that stands behind an outcome is well-formed
+pub carried_well : (conf : Configuration) (characters : ℕ) (layer : Annotations) (command : Command) (new : Annotations) (outcome : Result (Done × Back) Refusal) → IsWellFormed conf characters layer
+    → Carries conf characters layer command new outcome → IsWellFormed conf characters new
+carried_well conf characters layer command new (Ok told) well all =
+    subst (λ r. IfOk r (λ applied. IsWellFormed conf characters applied.layer)) all.done (commands_keep conf characters layer command well)
+carried_well conf characters layer command new (Err stop) well all = subst (IsWellFormed conf characters) (sym all.kept) well
 
 -- what is kept where something is done and where nothing is
 pub kept_either : {X Y : Type 0} (P : Annotations → Type 0) (result : Result X Y) (old led new : Annotations) → OnOk result (new ≡ led) → OnErr result (new ≡ old) → P old → P led → P new

@@ -4,7 +4,12 @@ pub mod Backs
 pub mod MadeLayers
 pub mod CommandRules
 pub mod Cascade
-pub mod DraftShows
+pub mod Namers
+pub mod Near
+pub mod Indexes
+pub mod Changes
+pub mod Outcomes
 pub mod ValueShows
 pub mod Touched
 pub mod Works
+pub mod Joined

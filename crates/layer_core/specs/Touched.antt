@@ -1,5 +1,5 @@
 -- Which places of a layer may break a rule because of one annotation: where the layer without a change under its ID is well-formed, no other place can.
-use Rattle.std.specs.Prelude.{ℕ, ◌||◌, Bool, false, List, Option, is_some, slice_get, filter}
+use Rattle.std.specs.Prelude.{ℕ, ◌||◌, Bool, false, Option, is_some, slice_get, filter}
 use Rattle.std.specs.Option.{option_map_or}
 use Rattle.std.specs.List.{list_any}
 use Rattle.mark_base.specs.declared.ann_id.AnnId.{AnnId}

@@ -1,5 +1,5 @@
 //! What breaks a rule in a command's own fields.
-ghost use Rattle.std.specs.Prelude.{◌≡◌, ◌∷◌, [], IfOk, List, Some, map, option_and_then};
+ghost use Rattle.std.specs.Prelude.{◌≡◌, ◌∷◌, [], List, Some, map, option_and_then};
 ghost use Rattle.std.specs.List.{list_any};
 ghost use Rattle.mark_base.specs.declared.fragments.Frag.{Frag};
 ghost use Rattle.conf_model.specs.Lookups.{relation_named};
@@ -9,25 +9,26 @@ ghost use Rattle.layer_core.specs.OwnRules.{first_broken, frags_rule, moved_rule
 ghost use Rattle.layer_core.specs.CommandRules.{event_type, has_value, is_attribute_letter, is_event_letter, is_in_class, is_span_letter, members_refused, no_such_argument, not_in_class, of_letters, roles_undeclared, target_refused, used_up, value_at};
 ghost use Rattle.layer_rules.specs.LayerRules.{is_arg, is_id};
 ghost use Rattle.layer_rules.specs.MarkRules.{argument, first_missing, first_unwanted, trigger, where_so};
+ghost use Rattle.layer_core.specs.Namers.{AreNamersOf};
+ghost use Rattle.layer_core.specs.Changes.{AreNamers};
 ghost use Rattle.layer_core.specs.ValueShows.{valued_of};
 
 use crate::Command;
 use crate::attribute_value::{Valued, is_had, is_refused, value_of};
+use crate::changes::is_arg;
 use crate::command_names::{
     arg_named, barred, event_named, no_equivalence, role_unknown, undeclared_attribute,
     undeclared_relation, undeclared_type,
 };
 use crate::first_annotation::{attribute_on, first_note, first_reference, in_use, trigger_in_use};
-use crate::made_layers::is_arg;
 use conf_model::Conf;
 use layer_model::{Class, Layer, RoleAt, Rule};
 use layer_rules::{
     LONGEST_REACH, are_bad_members, is_argument, is_attribute_target, is_id, is_member, is_trigger,
     last_end, missing, missing_ids, target_of, unwanted, unwanted_members, where_so,
 };
-use mark_base::{AnnId, Arg, AttrId, Frag, Kind, Memory, Name, NamedArg, RelId, TypeId};
+use mark_base::{AnnId, Arg, AttrId, Frag, Kind, Name, NamedArg, RelId, TypeId};
 use overlap_rules::{are_ascending, reach};
-use std::alloc::Global;
 
 /// The rule on a new annotation of a letter whose greatest number is taken.
 fn used_up(layer: &Layer, kind: Kind) -> Option<Rule>
@@ -68,19 +69,14 @@ fn add_span(conf: &Conf, layer: &Layer, kind: &Name) -> Option<Rule>
 }
 
 /// The rules of another type.
-fn retype_span(
-    alloc: Global,
-    conf: &Conf,
-    layer: &Layer,
-    id: AnnId,
-    kind: &Name,
-) -> Result<Option<Rule>, Memory>
-    ensures { IfOk result (λ rule. rule ≡ first_broken (own_rules conf.now layer.now (Command.RetypeSpan id kind.now))) }
+fn retype_span(conf: &Conf, layer: &Layer, namers: &[AnnId], id: AnnId, kind: &Name) -> Option<Rule>
+    requires { AreNamersOf layer.now id namers.now }
+    ensures { result ≡ first_broken (own_rules conf.now layer.now (Command.RetypeSpan id kind.now)) }
 {
     let found = conf.types().find(kind);
     let named = undeclared_type(found).or(barred(conf, found));
     let there = missing(layer, id).or(no_span(id));
-    Ok(named.or(there).or(trigger_in_use(alloc, layer, id)?))
+    named.or(there).or(trigger_in_use(layer, namers, id))
 }
 
 /// The rules that fragments break by themselves.
@@ -290,27 +286,28 @@ fn same_there(layer: &Layer, there: Option<AnnId>, value: Valued) -> Option<Rule
 
 /// The rules of an attribute that is set.
 fn set_attribute(
-    alloc: Global,
     conf: &Conf,
     layer: &Layer,
+    namers: &[AnnId],
     kind: &Name,
     target: AnnId,
     value: &Option<Name>,
-) -> Result<Option<Rule>, Memory>
-    ensures { IfOk result (λ rule. rule ≡ first_broken (own_rules conf.now layer.now (Command.SetAttribute kind.now target value.now))) }
+) -> Option<Rule>
+    requires { AreNamersOf layer.now target namers.now }
+    ensures { result ≡ first_broken (own_rules conf.now layer.now (Command.SetAttribute kind.now target value.now)) }
 {
     let fits = is_attribute_target(conf, layer, target);
     let on_target = missing(layer, target).or(unwanted(target, fits));
     let named = undeclared_attribute(conf, kind).or(on_target);
     let Some(attribute) = conf.attribute(kind) else {
-        return Ok(named);
+        return named;
     };
-    let there = attribute_on(alloc, layer, attribute, target)?;
+    let there = attribute_on(layer, namers, attribute, target);
     let refused = target_refused(conf, layer, attribute, target);
     let unknown = value_unknown(conf, attribute, value);
     let same = same_there(layer, there, value_of(conf, attribute, value));
     let used = new_used_up(layer, Kind::Attribute, there);
-    Ok(named.or(refused).or(unknown).or(same).or(used))
+    named.or(refused).or(unknown).or(same).or(used)
 }
 
 /// The rule on members that make no class.
@@ -346,7 +343,7 @@ fn is_in_some_class(classes: &[Class], kind: RelId, id: AnnId) -> bool
 }
 
 /// Whether an ID is among some.
-fn has_id(ids: &[AnnId], id: AnnId) -> bool
+pub(crate) fn has_id(ids: &[AnnId], id: AnnId) -> bool
     ensures { result ≡ list_any (is_id id) ids.now }
 {
     for other in ids {
@@ -388,90 +385,90 @@ fn new_used_up(layer: &Layer, kind: Kind, there: Option<AnnId>) -> Option<Rule>
 }
 
 /// The rules of a text in a note.
-fn set_note(
-    alloc: Global,
-    layer: &Layer,
-    target: AnnId,
-    kind: &Name,
-) -> Result<Option<Rule>, Memory>
-    ensures { IfOk result (λ rule. (conf text : _) → rule ≡ first_broken (own_rules conf layer.now (Command.SetNote target kind.now text))) }
+fn set_note(layer: &Layer, namers: &[AnnId], target: AnnId, kind: &Name) -> Option<Rule>
+    requires { AreNamersOf layer.now target namers.now }
+    ensures { (conf text : _) → result ≡ first_broken (own_rules conf layer.now (Command.SetNote target kind.now text)) }
 {
-    let there = first_note(alloc, layer, kind, target)?;
-    Ok(missing(layer, target).or(new_used_up(layer, Kind::Note, there)))
+    let there = first_note(layer, namers, kind, target);
+    missing(layer, target).or(new_used_up(layer, Kind::Note, there))
 }
 
 /// The rules of a text in a reference.
 fn set_reference(
-    alloc: Global,
     layer: &Layer,
+    namers: &[AnnId],
     target: AnnId,
     store: &str,
     entry: &str,
-) -> Result<Option<Rule>, Memory>
-    ensures { IfOk result (λ rule. (conf text : _) → rule ≡ first_broken (own_rules conf layer.now (Command.SetReference target store.now entry.now text))) }
+) -> Option<Rule>
+    requires { AreNamersOf layer.now target namers.now }
+    ensures { (conf text : _) → result ≡ first_broken (own_rules conf layer.now (Command.SetReference target store.now entry.now text)) }
 {
-    let there = first_reference(alloc, layer, target, store, entry)?;
-    Ok(missing(layer, target).or(new_used_up(layer, Kind::Normal, there)))
+    let there = first_reference(layer, namers, target, store, entry);
+    missing(layer, target).or(new_used_up(layer, Kind::Normal, there))
 }
 
 /// The rules of an attribute that goes.
-fn clear_attribute(alloc: Global, layer: &Layer, id: AnnId) -> Result<Option<Rule>, Memory>
-    ensures { IfOk result (λ rule. (conf : _) → rule ≡ first_broken (own_rules conf layer.now (Command.ClearAttribute id))) }
+fn clear_attribute(layer: &Layer, namers: &[AnnId], id: AnnId) -> Option<Rule>
+    requires { AreNamersOf layer.now id namers.now }
+    ensures { (conf : _) → result ≡ first_broken (own_rules conf layer.now (Command.ClearAttribute id)) }
 {
-    let first = missing(layer, id).or(no_attribute(id));
-    Ok(first.or(in_use(alloc, layer, id)?))
+    missing(layer, id).or(no_attribute(id)).or(in_use(namers))
 }
 
 /// The rules of an annotation that goes.
-fn delete(alloc: Global, layer: &Layer, id: AnnId) -> Result<Option<Rule>, Memory>
-    ensures { IfOk result (λ rule. (conf : _) → rule ≡ first_broken (own_rules conf layer.now (Command.Delete id))) }
+fn delete(layer: &Layer, namers: &[AnnId], id: AnnId) -> Option<Rule>
+    requires { AreNamersOf layer.now id namers.now }
+    ensures { (conf : _) → result ≡ first_broken (own_rules conf layer.now (Command.Delete id)) }
 {
-    Ok(missing(layer, id).or(in_use(alloc, layer, id)?))
+    missing(layer, id).or(in_use(namers))
 }
 
-/// The first rule by number that a command breaks by its own fields. Cost: the annotations, where it asks
-/// which of them name another.
+/// The first rule by number that a command breaks by its own fields, where these annotations name its
+/// subject. Cost: their number, what the command names, the arguments of the event that it changes, and
+/// for a command on classes their members.
 pub(crate) fn own_rule(
-    alloc: Global,
     conf: &Conf,
     layer: &Layer,
+    namers: &[AnnId],
     command: &Command,
-) -> Result<Option<Rule>, Memory>
-    ensures { IfOk result (λ rule. rule ≡ first_broken (own_rules conf.now layer.now command.now)) }
+) -> Option<Rule>
+    requires named { AreNamers layer.now command.now namers.now }
+    ensures { result ≡ first_broken (own_rules conf.now layer.now command.now) }
 {
     match command {
-        Command::AddSpan { kind, .. } => Ok(add_span(conf, layer, kind)),
-        Command::RetypeSpan { id, kind } => retype_span(alloc, conf, layer, *id, kind),
-        Command::MoveSpan { id, .. } => Ok(move_span(layer, *id)),
+        Command::AddSpan { kind, .. } => add_span(conf, layer, kind),
+        Command::RetypeSpan { id, kind } => retype_span(conf, layer, namers, *id, kind),
+        Command::MoveSpan { id, .. } => move_span(layer, *id),
         Command::AddEvent {
             kind,
             trigger,
             args,
-        } => Ok(add_event(conf, layer, kind, *trigger, args.items())),
-        Command::AddArg { id, arg } => Ok(on_arg(conf, layer, *id, arg)),
-        Command::RemoveArg { id, arg } => Ok(remove_arg(conf, layer, *id, arg)),
+        } => add_event(conf, layer, kind, *trigger, args.items()),
+        Command::AddArg { id, arg } => on_arg(conf, layer, *id, arg),
+        Command::RemoveArg { id, arg } => remove_arg(conf, layer, *id, arg),
         Command::AddRelation {
             kind,
             first,
             second,
-        } => Ok(add_relation(conf, layer, kind, *first, *second)),
+        } => add_relation(conf, layer, kind, *first, *second),
         Command::SetAttribute {
             kind,
             target,
             value,
-        } => set_attribute(alloc, conf, layer, kind, *target, value),
-        Command::ClearAttribute { id } => clear_attribute(alloc, layer, *id),
-        Command::Equate { kind, members } => Ok(equate(conf, layer, kind, members.items())),
-        Command::Unequate { kind, id } => Ok(unequate(conf, layer, kind, *id)),
-        Command::SetNote { target, kind, .. } => set_note(alloc, layer, *target, kind),
+        } => set_attribute(conf, layer, namers, kind, *target, value),
+        Command::ClearAttribute { id } => clear_attribute(layer, namers, *id),
+        Command::Equate { kind, members } => equate(conf, layer, kind, members.items()),
+        Command::Unequate { kind, id } => unequate(conf, layer, kind, *id),
+        Command::SetNote { target, kind, .. } => set_note(layer, namers, *target, kind),
         Command::SetReference {
             target,
             store,
             entry,
             ..
-        } => set_reference(alloc, layer, *target, store.text(), entry.text()),
-        Command::Delete { id } => delete(alloc, layer, *id),
-        Command::Purge { id } => Ok(missing(layer, *id)),
-        Command::Load { .. } => Ok(None),
+        } => set_reference(layer, namers, *target, store.text(), entry.text()),
+        Command::Delete { id } => delete(layer, namers, *id),
+        Command::Purge { id } => missing(layer, *id),
+        Command::Load { .. } => None,
     }
 }

@@ -1,26 +1,22 @@
 //! The first annotation of some that passes a test.
-ghost use Rattle.std.specs.Prelude.{◌≡◌, ◌&&◌, ◌==◌, ◌++◌, false, map, find, true, IfOk, IfSome, IsTrue, OnOk, option_copied, option_map, bytes_eq};
-ghost use Rattle.std.specs.FinMap as finite;
-ghost use Rattle.std.specs.Ordering.{nat_cmp};
+ghost use Rattle.std.specs.Prelude.{◌≡◌, ◌&&◌, ◌==◌, false, map, true, IfSome, IsTrue, option_copied};
 ghost use Rattle.std.specs.Option.{option_map_or};
 ghost use Rattle.std.specs.List.{list_any};
+ghost use Rattle.mark_base.specs.declared.ann_id.AnnId.{AnnId};
 ghost use Rattle.mark_base.specs.declared.ann_id.Kind.{Kind};
 ghost use Rattle.layer_model.specs.declared.mark.Mark.{Mark};
+ghost use Rattle.layer_model.specs.Annotations.{Annotations};
 ghost use Rattle.layer_model.specs.Layers.{is_of_kind, mark_at};
 ghost use Rattle.mark_base.specs.ReadIds.{id_at};
-ghost use Rattle.layer_model.specs.LayerIds.{ids_of, ids_of_letter};
 ghost use Rattle.layer_rules.specs.LayerRules.{is_id};
 ghost use Rattle.layer_rules.specs.MarkRules.{named_by};
 ghost use Rattle.layer_core.specs.MadeLayers.{event_of, is_note_on, is_reference_to, lowest, relation_of, span_of};
-ghost use Rattle.layer_core.specs.CommandRules.{attribute_on, first_naming, in_use, is_attribute_on, is_in_trigger, trigger_in_use};
+ghost use Rattle.layer_core.specs.CommandRules.{attribute_on, in_use, is_attribute_on, is_in_trigger, trigger_in_use};
+ghost use Rattle.layer_core.specs.Namers.{AreNamersOf, is_triggered_by};
 
-use layer_model::{
-    Attribute, Event, Layer, Relation, Rule, Span, id_at, ids_of, ids_of_letter, push_ids,
-};
+use layer_model::{Attribute, Event, Layer, Relation, Rule, Span, id_at};
 use layer_rules::is_id;
-use mark_base::{AnnId, Arg, AttrId, Kind, Memory, Name};
-use std::alloc::Global;
-use std::collections::BTreeMap;
+use mark_base::{AnnId, Arg, AttrId, Kind, Name};
 
 /// The span of an ID.
 pub(crate) fn span_of(layer: &Layer, id: AnnId) -> Option<&Span>
@@ -107,63 +103,63 @@ pub(crate) fn names(layer: &Layer, other: AnnId, id: AnnId) -> bool
     }
 }
 
-/// The lowest annotation that names another.
-pub(crate) fn first_naming(alloc: Global, layer: &Layer, id: AnnId) -> Result<Option<AnnId>, Memory>
-    ensures { IfOk result (λ found. found ≡ first_naming layer.now id) }
+/// The rule on an annotation that others name: these, ascending.
+pub(crate) fn in_use(namers: &[AnnId]) -> Option<Rule>
+    ensures { (layer : Annotations) → (id : AnnId) → AreNamersOf layer id namers.now → result ≡ in_use layer id }
 {
-    let ids = ids_of(alloc, layer)?;
-    for other in &ids {
-        if names(layer, *other, id) {
-            return Ok(Some(*other));
-        }
-    }
-    Ok(None)
-}
-
-/// The rule on an annotation that another one names.
-pub(crate) fn in_use(alloc: Global, layer: &Layer, id: AnnId) -> Result<Option<Rule>, Memory>
-    ensures { IfOk result (λ rule. rule ≡ in_use layer.now id) }
-{
-    match first_naming(alloc, layer, id)? {
-        Some(other) => Ok(Some(Rule::InUse(other))),
-        None => Ok(None),
+    match namers.first() {
+        Some(other) => Some(Rule::InUse(*other)),
+        None => None,
     }
 }
 
-/// Whether a span is the trigger of an event.
-pub(crate) fn is_in_trigger(layer: &Layer, id: AnnId) -> bool
-    ensures { result ≡ is_in_trigger layer.now id }
+/// Whether the annotation of an ID is an event with the trigger of this number.
+fn is_triggered_by(layer: &Layer, id: AnnId, trigger: u32) -> bool
+    ensures { result ≡ option_map_or (is_triggered_by trigger) (mark_at layer.now id) false }
 {
     match id.kind {
-        Kind::Text => has_trigger(layer.events(), id.number),
+        Kind::Event => match layer.event(id.number) {
+            Some(event) => event.trigger == trigger,
+            None => false,
+        },
         _ => false,
     }
 }
 
-/// Whether some event has the trigger of this number.
-fn has_trigger(events: &BTreeMap<u32, Event>, trigger: u32) -> bool
-    ensures { result ≡ list_any (λ entry. entry.1.trigger == trigger) (finite.entries (finite.from_entries {R = nat_cmp} events.now.entries)) }
+/// Whether one of some annotations is an event with the trigger of this number.
+fn has_trigger(layer: &Layer, ids: &[AnnId], trigger: u32) -> bool
+    ensures { result ≡ list_any (λ other. option_map_or (is_triggered_by trigger) (mark_at layer.now other) false) ids.now }
 {
-    for (_number, event) in events {
-        if event.trigger == trigger {
+    for id in ids {
+        if is_triggered_by(layer, *id, trigger) {
             return true;
         }
     }
     false
 }
 
-/// The rule on a span whose type is that of the event it triggers.
-pub(crate) fn trigger_in_use(
-    alloc: Global,
-    layer: &Layer,
-    id: AnnId,
-) -> Result<Option<Rule>, Memory>
-    ensures { IfOk result (λ rule. rule ≡ trigger_in_use layer.now id) }
+/// Whether a span is the trigger of an event, one of those that name it. Cost: their number.
+pub(crate) fn is_in_trigger(layer: &Layer, namers: &[AnnId], id: AnnId) -> bool
+    requires { AreNamersOf layer.now id namers.now }
+    ensures { result ≡ is_in_trigger layer.now id }
 {
-    if is_in_trigger(layer, id) {
-        in_use(alloc, layer, id)
+    layer.keeps();
+    match id.kind {
+        Kind::Text => has_trigger(layer, namers, id.number),
+        _ => false,
+    }
+}
+
+/// The rule on a span whose type is that of the event it triggers, one of those that name it. Cost: their
+/// number.
+pub(crate) fn trigger_in_use(layer: &Layer, namers: &[AnnId], id: AnnId) -> Option<Rule>
+    requires { AreNamersOf layer.now id namers.now }
+    ensures { result ≡ trigger_in_use layer.now id }
+{
+    if is_in_trigger(layer, namers, id) {
+        in_use(namers)
     } else {
-        Ok(None)
+        None
     }
 }
 
@@ -188,33 +184,24 @@ fn is_attribute_on(layer: &Layer, id: AnnId, kind: AttrId, target: AnnId) -> boo
     }
 }
 
-/// The lowest attribute of a type on a target among some annotations.
-fn first_on(layer: &Layer, ids: &[AnnId], kind: AttrId, target: AnnId) -> Option<AnnId>
+/// The lowest attribute of a type on a target, under either letter, one of those that name the target.
+/// Cost: their number.
+pub(crate) fn attribute_on(
+    layer: &Layer,
+    namers: &[AnnId],
+    kind: AttrId,
+    target: AnnId,
+) -> Option<AnnId>
+    requires { AreNamersOf layer.now target namers.now }
     ensures letter { IfSome result (λ id. (attribute : _) → is_of_kind id.kind (Mark.Attribute attribute) ≡ true) }
-    ensures value { result ≡ find (λ other. option_map_or (is_attribute_on kind.n target) (mark_at layer.now other) false) ids.now }
+    ensures value { result ≡ attribute_on layer.now kind.n target }
 {
-    for id in ids {
+    for id in namers {
         if is_attribute_on(layer, *id, kind, target) {
             return Some(*id);
         }
     }
     None
-}
-
-/// The lowest attribute of a type on a target, under either letter.
-pub(crate) fn attribute_on(
-    alloc: Global,
-    layer: &Layer,
-    kind: AttrId,
-    target: AnnId,
-) -> Result<Option<AnnId>, Memory>
-    ensures letter { IfOk result (λ found. IfSome found (λ id. (attribute : _) → is_of_kind id.kind (Mark.Attribute attribute) ≡ true)) }
-    ensures value { IfOk result (λ found. found ≡ attribute_on layer.now kind.n target) }
-{
-    let mut ids = Vec::new(alloc);
-    push_ids(&mut ids, layer, Kind::Attribute)?;
-    push_ids(&mut ids, layer, Kind::Legacy)?;
-    Ok(first_on(layer, &ids, kind, target))
 }
 
 /// Whether the annotation of an ID is a note of a type on a target.
@@ -231,23 +218,23 @@ fn is_note_on(layer: &Layer, id: AnnId, kind: &Name, target: AnnId) -> bool
     }
 }
 
-/// The lowest note of a type on a target.
+/// The lowest note of a type on a target, one of those that name the target. Cost: their number.
 pub(crate) fn first_note(
-    alloc: Global,
     layer: &Layer,
+    namers: &[AnnId],
     kind: &Name,
     target: AnnId,
-) -> Result<Option<AnnId>, Memory>
-    ensures letter { IfOk result (λ found. IfSome found (λ id. id.kind ≡ Kind.Note)) }
-    ensures value { IfOk result (λ found. found ≡ lowest (is_note_on kind.now target) layer.now Kind.Note) }
+) -> Option<AnnId>
+    requires { AreNamersOf layer.now target namers.now }
+    ensures letter { IfSome result (λ id. id.kind ≡ Kind.Note) }
+    ensures value { result ≡ lowest (is_note_on kind.now target) layer.now Kind.Note }
 {
-    let ids = ids_of_letter(alloc, layer, Kind::Note)?;
-    for id in &ids {
+    for id in namers {
         if is_note_on(layer, *id, kind, target) {
-            return Ok(Some(*id));
+            return Some(*id);
         }
     }
-    Ok(None)
+    None
 }
 
 /// Whether the annotation of an ID is a reference of a target to an entry.
@@ -268,22 +255,23 @@ fn is_reference_to(layer: &Layer, id: AnnId, target: AnnId, store: &str, entry: 
     }
 }
 
-/// The lowest reference of a target to an entry of a store.
+/// The lowest reference of a target to an entry of a store, one of those that name the target. Cost: their
+/// number.
 pub(crate) fn first_reference(
-    alloc: Global,
     layer: &Layer,
+    namers: &[AnnId],
     target: AnnId,
     store: &str,
     entry: &str,
-) -> Result<Option<AnnId>, Memory>
-    ensures letter { IfOk result (λ found. IfSome found (λ id. id.kind ≡ Kind.Normal)) }
-    ensures value { IfOk result (λ found. found ≡ lowest (is_reference_to target store.now entry.now) layer.now Kind.Normal) }
+) -> Option<AnnId>
+    requires { AreNamersOf layer.now target namers.now }
+    ensures letter { IfSome result (λ id. id.kind ≡ Kind.Normal) }
+    ensures value { result ≡ lowest (is_reference_to target store.now entry.now) layer.now Kind.Normal }
 {
-    let ids = ids_of_letter(alloc, layer, Kind::Normal)?;
-    for id in &ids {
+    for id in namers {
         if is_reference_to(layer, *id, target, store, entry) {
-            return Ok(Some(*id));
+            return Some(*id);
         }
     }
-    Ok(None)
+    None
 }

@@ -1,18 +1,16 @@
 //! The way from the layer that a command made back to the layer before it.
-ghost use Rattle.std.specs.Prelude.{◌≡◌, true, IfErr, IfOk, IfSome, OnErr, OnOk};
+ghost use Rattle.std.specs.Prelude.{◌≡◌, true, IfErr, IfOk, OnErr, OnOk};
 ghost use Rattle.std.specs.List.{list_any};
-ghost use Rattle.layer_model.specs.Annotations.{Annotations};
 ghost use Rattle.layer_model.specs.Classes.{has_rank, rank};
-ghost use Rattle.layer_model.specs.Layers.{is_of_kind, with_mark};
-ghost use Rattle.layer_core.specs.MadeLayers.{Draft as Drafted, gone};
-ghost use Rattle.layer_core.specs.DraftShows.{draft_of};
-ghost use Rattle.layer_core.specs.Backs.{DiffersUnder, IsDraftOf, IsWayBack, fits_back, led_back};
+ghost use Rattle.layer_model.specs.Layers.{is_of_kind, mark_at, with_mark, without};
+ghost use Rattle.layer_core.specs.Backs.{fits_back, led_back};
+ghost use Rattle.layer_core.specs.Outcomes.{IsIndexed, IsIndexedBut, IsSomeWellFormed};
 
-use crate::draft::{Draft, with_changed};
-use crate::{Back, Command};
+use crate::Back;
+use crate::index::Index;
+use crate::outcome::{set, taken_in};
 use layer_model::{Class, Layer, Mark, rank};
 use mark_base::{AnnId, Memory};
-use std::mem;
 
 /// Whether the ID of this place is one of the members.
 fn has_rank(members: &[AnnId], place: u64) -> bool
@@ -22,7 +20,7 @@ fn has_rank(members: &[AnnId], place: u64) -> bool
 }
 
 /// Whether an ID stands in one of the classes. Cost: their members.
-fn is_held(classes: &[Class], id: AnnId) -> bool
+pub(crate) fn is_held(classes: &[Class], id: AnnId) -> bool
     ensures { result ≡ list_any (λ class. has_rank (rank id) class.members) classes.now }
 {
     let place = rank(id);
@@ -31,108 +29,89 @@ fn is_held(classes: &[Class], id: AnnId) -> bool
         .any(|class| has_rank(class.members.items(), place))
 }
 
-/// The annotation that a command takes away and no other.
-fn removed_by(command: &Command) -> Option<AnnId>
-    ensures { IfSome result (λ id. (layer : Annotations) (made : Drafted) → IsDraftOf layer command.now made → made.layer ≡ gone layer id) }
+/// The index of a layer in which what stands under an ID changed, as far as one was kept and memory allows
+/// one.
+fn kept_in(index: Option<Index>, layer: &Layer, id: AnnId, before: &Option<Mark>) -> Option<Index>
+    requires well_formed { IsSomeWellFormed layer.now }
+    requires index { IsIndexedBut id layer.now index }
+    ensures { IsIndexed layer.now result }
 {
-    match command {
-        Command::ClearAttribute { id } => Some(*id),
-        Command::Delete { id } => Some(*id),
-        _ => None,
-    }
+    layer.keeps();
+    taken_in(index?, layer, id, before)
 }
 
-/// The annotation that a command takes away and no other, where it stands in no class.
-fn taken_alone(layer: &Layer, command: &Command) -> Option<AnnId>
-    ensures { IfSome result (λ id. (made : Drafted) → IsDraftOf layer.now command.now made → DiffersUnder made.layer id layer.now) }
+/// Takes an annotation away again.
+fn take_again(layer: &mut Layer, index: &mut Option<Index>, id: AnnId)
+    requires well_formed { IsSomeWellFormed (without layer.old id) }
+    requires index { IsIndexed layer.old index.old }
+    ensures layer { layer.new ≡ without layer.old id }
+    ensures index { IsIndexed layer.new index.new }
 {
-    let id = removed_by(command)?;
-    if is_held(layer.classes(), id) {
-        None
-    } else {
-        Some(id)
-    }
+    let before = layer.take(id);
+    *index = kept_in(index.take(), layer, id, &before);
 }
 
-/// The ID under which alone the draft of a command differs from the layer before it, where there is one.
-pub(crate) fn changed_alone(layer: &Layer, command: &Command, made: &Draft) -> Option<AnnId>
-    requires { IsDraftOf layer.now command.now (draft_of made.now) }
-    ensures { IfSome result (λ id. DiffersUnder made.now.layer id layer.now) }
-{
-    match made.changed {
-        Some(id) => Some(id),
-        None => taken_alone(layer, command),
-    }
-}
-
-/// Puts a layer in the place of another, which differs under this ID alone where there is one, and keeps
-/// what leads back.
-pub(crate) fn exchange(layer: &mut Layer, made: Layer, under: Option<AnnId>) -> Back
-    requires { IfSome under (λ id. DiffersUnder made id layer.old) }
-    ensures layer { layer.new ≡ made }
-    ensures back { IsWayBack result made layer.old }
-{
-    match under {
-        Some(id) => {
-            let mark = layer.take(id);
-            *layer = made;
-            Back::Under { id, mark }
-        }
-        None => {
-            let earlier = mem::replace(layer, made);
-            Back::Whole { layer: earlier }
-        }
-    }
-}
-
-/// A layer with another annotation under an ID.
-fn with_again(layer: &Layer, id: AnnId, mark: &Mark) -> Result<Layer, Memory>
+/// Puts a copy of an annotation under an ID, in the place of what is there, and answers what was. Want of
+/// memory leaves the layer as it was.
+fn set_again(layer: &mut Layer, id: AnnId, mark: &Mark) -> Result<Option<Mark>, Memory>
     requires { is_of_kind id.kind mark.now ≡ true }
-    ensures { IfOk result (λ made. made ≡ with_mark layer.now id mark.now) }
-{
-    let mark = mark.clone()?;
-    let made = with_changed(layer, id, mark)?;
-    Ok(made.layer)
-}
-
-/// Puts this annotation under an ID, in the place of what is there. Want of memory leaves the layer as it
-/// was. Cost: as the look-up of an ordered map, and a copy of the layer where something is there.
-fn put_again(layer: &mut Layer, id: AnnId, mark: &Mark) -> Result<(), Memory>
-    requires { is_of_kind id.kind mark.now ≡ true }
+    ensures before { IfOk result (λ before. before ≡ mark_at layer.old id) }
     ensures done { OnOk result (layer.new ≡ with_mark layer.old id mark.now) }
     ensures kept { OnErr result (layer.new ≡ layer.old) }
 {
-    if layer.has(id) {
-        let made = with_again(layer, id, mark)?;
-        *layer = made;
-        Ok(())
-    } else {
-        let mark = mark.clone()?;
-        layer.put(id, mark)
-    }
+    let mark = mark.clone()?;
+    set(layer, id, mark)
+}
+
+/// Puts an annotation under an ID again, in the place of what is there. Want of memory leaves the layer as it
+/// was.
+fn put_again(
+    layer: &mut Layer,
+    index: &mut Option<Index>,
+    id: AnnId,
+    mark: &Mark,
+) -> Result<(), Memory>
+    requires fits { is_of_kind id.kind mark.now ≡ true }
+    requires well_formed { IsSomeWellFormed (with_mark layer.old id mark.now) }
+    requires index { IsIndexed layer.old index.old }
+    ensures done { OnOk result (layer.new ≡ with_mark layer.old id mark.now) }
+    ensures kept { OnErr result (layer.new ≡ layer.old) }
+    ensures index { IsIndexed layer.new index.new }
+{
+    let before = set_again(layer, id, mark)?;
+    *index = kept_in(index.take(), layer, id, &before);
+    Ok(())
 }
 
 /// Goes a way back. Want of memory leaves the layer as it was and gives the way back again.
-pub(crate) fn go_back(layer: &mut Layer, back: Back) -> Result<(), (Back, Memory)>
-    requires { fits_back back ≡ true }
+pub(crate) fn go_back(
+    layer: &mut Layer,
+    index: &mut Option<Index>,
+    back: Back,
+) -> Result<(), (Back, Memory)>
+    requires fits { fits_back back ≡ true }
+    requires well_formed { IsSomeWellFormed (led_back back layer.old) }
+    requires index { IsIndexed layer.old index.old }
     ensures done { OnOk result (layer.new ≡ led_back back layer.old) }
     ensures kept { OnErr result (layer.new ≡ layer.old) }
     ensures given { IfErr result (λ stop. stop.0 ≡ back) }
+    ensures index { IsIndexed layer.new index.new }
 {
     match back {
         Back::Same => Ok(()),
         Back::Whole { layer: before } => {
             *layer = before;
+            *index = None;
             Ok(())
         }
         Back::Under { id, mark: None } => {
-            layer.take(id);
+            take_again(layer, index, id);
             Ok(())
         }
         Back::Under {
             id,
             mark: Some(mark),
-        } => match put_again(layer, id, &mark) {
+        } => match put_again(layer, index, id, &mark) {
             Ok(()) => Ok(()),
             Err(memory) => Err((
                 Back::Under {

@@ -1,23 +1,27 @@
 //! A layer that commands change.
-ghost use Rattle.std.specs.Prelude.{◌≡◌, ◌<◌, IfOk, IfErr, IfSome, OnErr, OnOk, Ok, Some, true, length, option_map, option_and_then};
+ghost use Rattle.std.specs.Prelude.{◌≡◌, ◌<◌, IfOk, IfErr, OnErr, OnOk, None, Ok, true, length};
 ghost use Rattle.std.specs.Arc.{arc_value};
 ghost use Rattle.layer_rules.specs.CheckFaults.{IsCheckFault};
-ghost use Rattle.layer_core.specs.Commands.{applied_of, apply, draft_rule, lower_rule, made_by, refusal};
+ghost use Rattle.layer_rules.specs.WellFormed.{IsWellFormed};
+ghost use Rattle.layer_core.specs.Backs.{IsWayBack, fits_back, led_back};
+ghost use Rattle.layer_core.specs.Changes.{AreNamers, FitsLayer, draft_by};
+ghost use Rattle.layer_core.specs.Commands.{apply};
+ghost use Rattle.layer_core.specs.Indexes.{IsIndex};
 ghost use Rattle.layer_core.specs.MadeLayers.{draft};
-ghost use Rattle.layer_core.specs.DraftShows.{draft_of};
-ghost use Rattle.layer_core.specs.Backs.{IsDraftOf, IsWayBack, fits_back, led_back};
-ghost use Rattle.layer_rules.specs.WellFormed.{IsWellFormed, least_flaw};
+ghost use Rattle.layer_core.specs.Outcomes.{IsIndexed, IsOutcome, IsSomeWellFormed};
+ghost use Rattle.layer_core.specs.OwnRules.{own_rule};
 ghost use Rattle.layer_core.specs.Works.{IsRefusal};
 
+use crate::change::Change;
+use crate::changes::{change, subject};
 use crate::command_rules::{moved_rule, own_rule};
-use crate::draft::Draft;
-use crate::made_layers::draft;
-use crate::named_in_refusal::told_of;
-use crate::ways_back::{changed_alone, exchange, go_back};
+use crate::index::Index;
+use crate::outcome::{Outcome, done};
+use crate::ways_back::go_back;
 use crate::{Back, Command, Refusal};
 use char_documents::Doc;
 use conf_model::Conf;
-use layer_model::{Flaw, Layer, Rule};
+use layer_model::{Layer, Rule};
 use layer_rules::{CheckFault, check};
 use mark_base::{AnnId, Memory};
 use std::alloc::Global;
@@ -35,6 +39,7 @@ pub struct Done {
 pub struct Work {
     alloc: Global,
     layer: Layer,
+    index: Option<Index>,
     doc: Arc<Doc>,
     conf: Arc<Conf>,
 }
@@ -43,6 +48,7 @@ impl Model for Work {
     ghost use Rattle.std.specs.Prelude.{length};
     ghost use Rattle.std.specs.Arc.{arc_value};
     ghost use Rattle.layer_rules.specs.WellFormed.{IsWellFormed};
+    ghost use Rattle.layer_core.specs.Outcomes.{IsIndexed};
     ghost use Rattle.layer_core.specs.Works.{WorkState, work_code};
 
     ghost Value = { WorkState };
@@ -51,151 +57,77 @@ impl Model for Work {
 
     ghost view = { λ work. record { conf = arc_value work.conf; text = arc_value work.doc; layer = work.layer } };
 
-    ghost invariant = { λ work. IsWellFormed (arc_value work.conf) (length (arc_value work.doc)) work.layer };
+    ghost invariant = { λ work. IsWellFormed (arc_value work.conf) (length (arc_value work.doc)) work.layer × IsIndexed work.layer work.index };
 }
 
-/// The rule of the least flaw of a draft's layer.
-fn flaw_rule(
+/// The index of a layer, made anew where none is kept. Cost: nothing where one is, and else as `Index::of`.
+fn ready(alloc: Global, layer: &Layer, index: Option<Index>) -> Result<Index, Memory>
+    requires well_formed { IsSomeWellFormed layer.now }
+    requires index { IsIndexed layer.now index }
+    ensures { IfOk result (λ index. IsIndex None layer.now index) }
+{
+    layer.keeps();
+    match index {
+        Some(index) => Ok(index),
+        None => Index::of(alloc, layer),
+    }
+}
+
+/// The annotations that name the one of which a command asks who names it.
+fn namers(
     alloc: Global,
-    conf: &Conf,
-    doc: &Doc,
-    made: &Draft,
-    flaw: Flaw,
-) -> Result<Option<Rule>, Memory>
-    requires { least_flaw conf.now (length doc.now) made.now.layer ≡ Some flaw }
-    ensures { IfOk result (λ rule. rule ≡ draft_rule conf.now (length doc.now) (draft_of made.now)) }
+    layer: &Layer,
+    index: &Index,
+    command: &Command,
+) -> Result<Vec<AnnId>, Memory>
+    requires { IsIndex None layer.now index.now }
+    ensures { IfOk result (λ ids. AreNamers layer.now command.now ids.items) }
 {
-    let _characters = doc.char_count();
-    made.layer.keeps();
-    match made.changed {
-        Some(id) => {
-            let told = told_of(alloc, conf, &made.layer, id, flaw.rule)?;
-            Ok(Some(told))
-        }
-        None => Ok(Some(flaw.rule)),
+    match subject(command) {
+        Some(id) => index.namers(alloc, layer, None, id),
+        None => Ok(Vec::new(alloc)),
     }
 }
 
-/// The rule of a fault of a draft's layer.
-fn fault_rule(
-    alloc: Global,
-    conf: &Conf,
-    doc: &Doc,
-    made: &Draft,
-    fault: CheckFault,
-) -> Result<Option<Rule>, Memory>
-    requires { IsCheckFault conf.now (length doc.now) made.now.layer fault }
-    ensures { IfOk result (λ rule. rule ≡ draft_rule conf.now (length doc.now) (draft_of made.now)) }
-{
-    match fault {
-        CheckFault::Memory => Err(Memory),
-        CheckFault::Flaw(flaw) => flaw_rule(alloc, conf, doc, made, flaw),
-    }
-}
-
-/// The rule that the layer of a draft breaks.
-fn draft_rule(alloc: Global, conf: &Conf, doc: &Doc, made: &Draft) -> Result<Option<Rule>, Memory>
-    ensures { IfOk result (λ rule. rule ≡ draft_rule conf.now (length doc.now) (draft_of made.now)) }
-{
-    match check(alloc, &made.layer, doc, conf) {
-        Ok(()) => Ok(None),
-        Err(fault) => fault_rule(alloc, conf, doc, made, fault),
-    }
-}
-
-/// The rule that the layer of a draft breaks, where there is one.
-fn made_rule(
-    alloc: Global,
-    conf: &Conf,
-    doc: &Doc,
-    made: &Option<Draft>,
-) -> Result<Option<Rule>, Memory>
-    ensures { IfOk result (λ rule. rule ≡ option_and_then (draft_rule conf.now (length doc.now)) (option_map draft_of made.now)) }
-{
-    match made {
-        Some(made) => draft_rule(alloc, conf, doc, made),
-        None => Ok(None),
-    }
-}
-
-/// The ID of the new annotation of a draft.
-fn made_by(made: &Draft) -> Option<AnnId>
-    ensures { result ≡ made_by (draft_of made.now) }
-{
-    if made.is_new { made.changed } else { None }
-}
-
-/// The first rule by number that a command breaks, by its own fields or by its draft.
-fn broken_rule(
+/// The first rule that a command's own fields break, and what the command does to the layer.
+fn asked(
     alloc: Global,
     conf: &Conf,
     doc: &Doc,
     layer: &Layer,
+    index: &Index,
     command: &Command,
-    made: &Option<Draft>,
-) -> Result<Option<Rule>, Memory>
-    requires { option_map draft_of made.now ≡ draft conf.now layer.now command.now }
-    ensures { IfOk result (λ rule. rule ≡ refusal conf.now (length doc.now) layer.now command.now) }
-{
-    let fields = own_rule(alloc, conf, layer, command)?;
-    let own = moved_rule(doc.char_count(), command).or(fields);
-    let broken = made_rule(alloc, conf, doc, made)?;
-    Ok(lower_rule(own, broken))
-}
-
-/// The layer that a command makes, where it breaks no rule.
-fn accepted(
-    alloc: Global,
-    conf: &Conf,
-    doc: &Doc,
-    layer: &Layer,
-    command: &Command,
-) -> Result<Option<Draft>, Refusal>
+) -> Result<(Option<Rule>, Change), Memory>
     requires few { length layer.now.classes < 4294967295 }
-    ensures done { IfOk result (λ made. apply conf.now (length doc.now) layer.now command.now ≡ Ok (applied_of layer.now (option_map draft_of made))) }
-    ensures drafted { IfOk result (λ made. IfSome made (λ made. IsDraftOf layer.now command.now (draft_of made))) }
-    ensures refused { IfErr result (IsRefusal conf.now (length doc.now) layer.now command.now) }
+    requires index { IsIndex None layer.now index.now }
+    ensures own { IfOk result (λ asked. asked.0 ≡ own_rule conf.now (length doc.now) layer.now command.now) }
+    ensures change { IfOk result (λ asked. draft_by layer.now asked.1 ≡ draft conf.now layer.now command.now) }
+    ensures fits { IfOk result (λ asked. FitsLayer layer.now asked.1) }
 {
-    let made = draft(alloc, conf, layer, command)?;
-    match broken_rule(alloc, conf, doc, layer, command, &made)? {
-        Some(rule) => Err(Refusal::Rule(rule)),
-        None => Ok(made),
-    }
+    let namers = namers(alloc, layer, index, command)?;
+    let fields = own_rule(conf, layer, &namers, command);
+    let own = moved_rule(doc.char_count(), command).or(fields);
+    let change = change(alloc, conf, layer, &namers, command)?;
+    Ok((own, change))
 }
 
-/// Takes the layer of the draft of a command, where there is one, and tells what it made and what leads
-/// back.
-fn take_draft(layer: &mut Layer, command: &Command, made: Option<Draft>) -> (Done, Back)
-    requires { IfSome made (λ made. IsDraftOf layer.old command.now (draft_of made)) }
-    ensures layer { layer.new ≡ (applied_of layer.old (option_map draft_of made)).layer }
-    ensures made { result.0.made ≡ (applied_of layer.old (option_map draft_of made)).made }
-    ensures back { IsWayBack result.1 layer.new layer.old }
+/// Carries a command out over the index of a layer, and answers the index behind it, as far as one is kept.
+fn carry_out(
+    alloc: Global,
+    conf: &Conf,
+    doc: &Doc,
+    layer: &mut Layer,
+    index: Index,
+    command: &Command,
+) -> (Outcome, Option<Index>)
+    requires well_formed { IsWellFormed conf.now (length doc.now) layer.old }
+    requires index { IsIndex None layer.old index }
+    ensures outcome { IsOutcome conf.now (length doc.now) (own_rule conf.now (length doc.now) layer.old command.now) (draft conf.now layer.old command.now) layer.old layer.new result.0 }
+    ensures index { IsIndexed layer.new result.1 }
 {
-    match made {
-        Some(made) => {
-            let id = made_by(&made);
-            let under = changed_alone(layer, command, &made);
-            let back = exchange(layer, made.layer, under);
-            (Done { made: id }, back)
-        }
-        None => (Done { made: None }, Back::Same),
-    }
-}
-
-/// The one of two rules that has the lower number.
-fn lower_rule(a: Option<Rule>, b: Option<Rule>) -> Option<Rule>
-    ensures { result ≡ lower_rule a b }
-{
-    match (a, b) {
-        (Some(a), Some(b)) => {
-            if b.number() < a.number() {
-                Some(b)
-            } else {
-                Some(a)
-            }
-        }
-        (None, b) => b,
-        (a, None) => a,
+    match asked(alloc, conf, doc, layer, &index, command) {
+        Ok((own, change)) => done(alloc, conf, doc, layer, index, own, change),
+        Err(_) => (Err(Refusal::Memory), Some(index)),
     }
 }
 
@@ -214,6 +146,7 @@ impl Work {
         Ok(Work {
             alloc,
             layer,
+            index: None,
             doc,
             conf,
         })
@@ -228,9 +161,14 @@ impl Work {
     }
 
     /// Carries a command out. A refusal is the first rule by number that the command breaks, by its own
-    /// fields or by the layer that it would make, and leaves the layer as it was. Cost: a copy of the
-    /// layer and a check of the copy; for a purge besides, for each step of the longest way from name to
-    /// name, a look-up of what each annotation names.
+    /// fields or by the layer that it would make, and leaves the layer as it was.
+    ///
+    /// Cost: what the command changes, what names it, what makes a pair with it, and the members of the
+    /// classes, each a look-up; where an event is to have an event as an argument, sixteen times the arguments
+    /// of all events. To equate, to unequate, to purge and to load, and to delete what stands in a class, cost a
+    /// copy of the layer and a check of the copy, and a purge besides, for each step of the longest way from
+    /// name to name, a look-up of what each annotation names. The first command, and one behind such a
+    /// command, cost what the annotations name besides.
     pub fn apply(&mut self, command: Command) -> Result<Done, Refusal>
         ensures done { IfOk result (λ done. apply self.old.conf (length self.old.text) self.old.layer command ≡ Ok (record { layer = self.new.layer; made = done.made })) }
         ensures refused { IfErr result (IsRefusal self.old.conf (length self.old.text) self.old.layer command) }
@@ -276,13 +214,22 @@ impl Work {
         ensures conf { self.new.conf ≡ self.old.conf }
         ensures text { self.new.text ≡ self.old.text }
     {
-        let made = accepted(self.alloc, &self.conf, &self.doc, &self.layer, command)?;
-        Ok(take_draft(&mut self.layer, command, made))
+        let index = ready(self.alloc, &self.layer, self.index.take())?;
+        let (outcome, index) = carry_out(
+            self.alloc,
+            &self.conf,
+            &self.doc,
+            &mut self.layer,
+            index,
+            command,
+        );
+        self.index = index;
+        outcome
     }
 
     /// Goes a way back that `apply_back` told of the layer as it stands: the layer before that command
-    /// stands again. Want of memory leaves the work as it was and gives the way back again. Cost: what
-    /// the command took away; a copy of the layer where it put another annotation in the place of one.
+    /// stands again. Want of memory leaves the work as it was and gives the way back again. Cost: a copy of
+    /// the annotation that the command took away or changed, and what it names, each a look-up.
     pub fn revert(&mut self, back: Back) -> Result<(), (Back, Memory)>
         requires fits { fits_back back ≡ true }
         requires well_formed { IsWellFormed self.old.conf (length self.old.text) (led_back back self.old.layer) }
@@ -290,6 +237,6 @@ impl Work {
         ensures kept { OnErr result (self.new ≡ self.old) }
         ensures given { IfErr result (λ stop. stop.0 ≡ back) }
     {
-        go_back(&mut self.layer, back)
+        go_back(&mut self.layer, &mut self.index, back)
     }
 }

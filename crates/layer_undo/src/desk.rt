@@ -181,8 +181,7 @@ impl Desk {
     }
 
     /// Takes the last command back. A refusal leaves the desk as it was: `NothingToUndo` where no command
-    /// is done. Cost: what the command took away; a copy of the layer where it put another annotation in
-    /// the place of one.
+    /// is done. Cost: as `Work::revert`.
     pub fn undo(&mut self) -> Result<(), Refusal>
         ensures done { OnOk result (after_undo self.old ≡ Ok self.new) }
         ensures refused { IfErr result (IsRefused (after_undo self.old)) }

@@ -1,6 +1,3 @@
-use Rattle.layer_core.specs.declared.command.Command.TheVariants as ask
-use Rattle.layer_core.specs.OwnRules.{first_broken, own_rules}
-use Rattle.layer_core.proofs.AnyLemmas.{at_one, at_two}
 use Rattle.layer_core.proofs.command_rules.own_rule.Goals as goal
 
 pub returns-in-AddSpan : goal.returns-in-AddSpan
@@ -13,23 +10,13 @@ pub returns-in-AddRelation : goal.returns-in-AddRelation
 returns-in-AddRelation c = rw c.in-AddRelation.is c.add_relation.ensures
 
 pub returns-in-ClearAttribute : goal.returns-in-ClearAttribute
-returns-in-ClearAttribute c =
-    rw c.in-ClearAttribute.is
-    (at_one c.clear_attribute.result (λ rule. rule) (λ conf. first_broken (own_rules conf c.args.layer.now (ask.ClearAttribute c.in-ClearAttribute.id))) c.args.conf.now c.clear_attribute.ensures)
+returns-in-ClearAttribute c = rw c.in-ClearAttribute.is (c.clear_attribute.ensures c.args.conf.now)
 
 pub returns-in-SetNote : goal.returns-in-SetNote
-returns-in-SetNote c =
-    rw c.in-SetNote.is
-    (at_two c.set_note.result (λ rule. rule) (λ conf text. first_broken (own_rules conf c.args.layer.now (ask.SetNote c.in-SetNote.target c.in-SetNote.kind text))) c.args.conf.now c.in-SetNote.text
-    c.set_note.ensures)
+returns-in-SetNote c = rw c.in-SetNote.is (c.set_note.ensures c.args.conf.now c.in-SetNote.text)
 
 pub returns-in-SetReference : goal.returns-in-SetReference
-returns-in-SetReference c =
-    rw (c.in-SetReference.is, ← c.text.ensures, ← c.text-in-SetReference.ensures)
-    (at_two c.set_reference.result (λ rule. rule)
-    (λ conf text. first_broken (own_rules conf c.args.layer.now (ask.SetReference c.in-SetReference.target c.text.result.now c.text-in-SetReference.result.now text))) c.args.conf.now c.in-SetReference.text
-    c.set_reference.ensures)
+returns-in-SetReference c = rw (c.in-SetReference.is, ← c.text.ensures, ← c.text-in-SetReference.ensures) (c.set_reference.ensures c.args.conf.now c.in-SetReference.text)
 
 pub returns-in-Delete : goal.returns-in-Delete
-returns-in-Delete c =
-    rw c.in-Delete.is (at_one c.delete.result (λ rule. rule) (λ conf. first_broken (own_rules conf c.args.layer.now (ask.Delete c.in-Delete.id))) c.args.conf.now c.delete.ensures)
+returns-in-Delete c = rw c.in-Delete.is (c.delete.ensures c.args.conf.now)

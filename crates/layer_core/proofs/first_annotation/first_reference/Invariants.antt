@@ -1,10 +1,11 @@
 use Rattle.std.proofs.Common.{◌≡◌, false, find, drop}
 use Rattle.std.specs.Option.{option_map_or}
+use Rattle.mark_base.specs.declared.ann_id.Kind.TheVariants as letter
 use Rattle.layer_model.specs.Layers.{mark_at}
-use Rattle.layer_core.specs.MadeLayers.{is_reference_to}
+use Rattle.layer_core.specs.MadeLayers.{is_reference_to, lowest}
 use Rattle.layer_core.proofs.first_annotation.first_reference.Given as goal
 
 abbrev pub invariant-loop-id : goal.invariant-loop-id
 invariant-loop-id l =
-    find (λ other. option_map_or (is_reference_to l.target l.store l.entry) (mark_at l.layer other) false) (drop l.id-index l.id-items)
-    ≡ find (λ other. option_map_or (is_reference_to l.target l.store l.entry) (mark_at l.layer other) false) l.id-items
+    find (λ other. option_map_or (is_reference_to l.target l.store l.entry) (mark_at l.layer other) false) (drop l.id-index l.namers)
+    ≡ lowest (is_reference_to l.target l.store l.entry) l.layer letter.Normal

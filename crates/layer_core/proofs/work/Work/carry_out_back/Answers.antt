@@ -1,29 +1,38 @@
-use Rattle.std.proofs.Common.{◌≡◌, Ok, length, option_map, refl, ◌∙◌, ap}
+use Rattle.std.proofs.Common.{length}
 use Rattle.std.specs.Arc.{arc_value}
-use Rattle.layer_core.specs.Commands.{applied_of, apply}
-use Rattle.layer_core.specs.DraftShows.{draft_of}
-use Rattle.layer_core.proofs.WorkLemmas.{few_classes, kept_by, taken_as}
+use Rattle.layer_core.specs.MadeLayers.{draft}
+use Rattle.layer_core.specs.Outcomes.{IsOutcome}
+use Rattle.layer_core.specs.OwnRules.{own_rule}
+use Rattle.layer_core.proofs.WorkLemmas.{Carries, carried_well, carries}
 use Rattle.layer_core.proofs.work.Work.carry_out_back.Goals as goal
 
-pub accepted-requires : goal.accepted-requires
-accepted-requires c = record { few = few_classes (arc_value c.self.inside.conf) (length (arc_value c.self.inside.doc)) c.self.inside.layer c.self.invariant }
+pub ready-requires-clause-well_formed : goal.ready-requires-clause-well_formed
+ready-requires-clause-well_formed c = (arc_value c.self.inside.conf, (length (arc_value c.self.inside.doc), c.self.invariant.0))
 
-pub returns : goal.returns
-returns c =
-    let done : apply (arc_value c.self.inside.conf) (length (arc_value c.self.inside.doc)) c.self.inside.layer c.args.command.now ≡ Ok (applied_of c.self.inside.layer (option_map draft_of c.in_ok-made.made)) =
-    rw (← c.deref.ensures, ← c.deref-2.ensures) c.in_ok-made.ensures.done in
-    rw (← c.self.view_is)
-    (record {
-      done = done ∙ ap Ok (taken_as _ c.take_draft.new.layer c.take_draft.result.0.made c.take_draft.ensures.layer c.take_draft.ensures.made);
-      back = c.take_draft.ensures.back;
-      refused = tt;
-      kept = tt;
-      conf = refl;
-      text = refl;
-    })
+pub invariant_of-self-2 : goal.invariant_of-self-2
+invariant_of-self-2 c =
+    let outcome : IsOutcome (arc_value c.self.inside.conf) (length (arc_value c.self.inside.doc)) (own_rule (arc_value c.self.inside.conf) (length (arc_value c.self.inside.doc)) c.self.inside.layer c.args.command.now)
+    (draft (arc_value c.self.inside.conf) c.self.inside.layer c.args.command.now) c.self.inside.layer c.carry_out-outcome.new.layer c.carry_out-outcome.result.0 =
+    rw (← c.deref.ensures, ← c.deref-2.ensures) c.carry_out-outcome.ensures.outcome in (
+      carried_well (arc_value c.self.inside.conf) (length (arc_value c.self.inside.doc)) c.self.inside.layer c.args.command.now c.carry_out-outcome.new.layer c.carry_out-outcome.result.0 c.self.invariant.0
+          (carries (arc_value c.self.inside.conf) (length (arc_value c.self.inside.doc)) c.self.inside.layer c.args.command.now c.carry_out-outcome.new.layer c.carry_out-outcome.result.0 outcome),
+      c.carry_out-outcome.ensures.index,
+    )
 
-pub invariant_of-self : goal.invariant_of-self
-invariant_of-self c =
-    let done : apply (arc_value c.self.inside.conf) (length (arc_value c.self.inside.doc)) c.self.inside.layer c.args.command.now ≡ Ok (applied_of c.self.inside.layer (option_map draft_of c.in_ok-made.made)) =
-    rw (← c.deref.ensures, ← c.deref-2.ensures) c.in_ok-made.ensures.done in
-    kept_by (arc_value c.self.inside.conf) (length (arc_value c.self.inside.doc)) c.self.inside.layer c.args.command.now (option_map draft_of c.in_ok-made.made) c.take_draft.new.layer c.self.invariant done c.take_draft.ensures.layer
+pub returns-clause-done : goal.returns-clause-done
+returns-clause-done c =
+    let outcome : IsOutcome (arc_value c.self.inside.conf) (length (arc_value c.self.inside.doc)) (own_rule (arc_value c.self.inside.conf) (length (arc_value c.self.inside.doc)) c.self.inside.layer c.args.command.now)
+    (draft (arc_value c.self.inside.conf) c.self.inside.layer c.args.command.now) c.self.inside.layer c.carry_out-outcome.new.layer c.carry_out-outcome.result.0 =
+    rw (← c.deref.ensures, ← c.deref-2.ensures) c.carry_out-outcome.ensures.outcome in
+    let all : Carries (arc_value c.self.inside.conf) (length (arc_value c.self.inside.doc)) c.self.inside.layer c.args.command.now c.carry_out-outcome.new.layer c.carry_out-outcome.result.0 =
+    carries (arc_value c.self.inside.conf) (length (arc_value c.self.inside.doc)) c.self.inside.layer c.args.command.now c.carry_out-outcome.new.layer c.carry_out-outcome.result.0 outcome in
+    rw (← c.self.view_is) all.done
+
+pub returns-clause-refused : goal.returns-clause-refused
+returns-clause-refused c =
+    let outcome : IsOutcome (arc_value c.self.inside.conf) (length (arc_value c.self.inside.doc)) (own_rule (arc_value c.self.inside.conf) (length (arc_value c.self.inside.doc)) c.self.inside.layer c.args.command.now)
+    (draft (arc_value c.self.inside.conf) c.self.inside.layer c.args.command.now) c.self.inside.layer c.carry_out-outcome.new.layer c.carry_out-outcome.result.0 =
+    rw (← c.deref.ensures, ← c.deref-2.ensures) c.carry_out-outcome.ensures.outcome in
+    let all : Carries (arc_value c.self.inside.conf) (length (arc_value c.self.inside.doc)) c.self.inside.layer c.args.command.now c.carry_out-outcome.new.layer c.carry_out-outcome.result.0 =
+    carries (arc_value c.self.inside.conf) (length (arc_value c.self.inside.doc)) c.self.inside.layer c.args.command.now c.carry_out-outcome.new.layer c.carry_out-outcome.result.0 outcome in
+    rw (← c.self.view_is) all.refused
