@@ -23,6 +23,9 @@ pub enum Device {
     Disks,
 }
 
+/// How often a message comes at most.
+const MOST_TIMES: u32 = 1_000_000;
+
 /// A request: its first line and its fields. The body stands in the section.
 #[derive(Clone, Copy, Debug)]
 pub struct Ask<'f> {
@@ -30,6 +33,8 @@ pub struct Ask<'f> {
     pub target: &'f str,
     pub caller: &'f str,
     pub form: Form,
+    /// How often it comes, where that is said.
+    pub times: Option<u32>,
     pub close: bool,
 }
 
@@ -41,6 +46,8 @@ pub struct Answer {
     pub form: Form,
     /// The place from here on, where it is another.
     pub place: Option<u64>,
+    /// How often it comes, where that is said.
+    pub times: Option<u32>,
     pub close: bool,
 }
 
@@ -217,7 +224,31 @@ pub fn reason(status: u16) -> Option<&'static str> {
     }
 }
 
-/// Reads `METHOD TARGET [by CALLER] [text|escaped] [close]`.
+/// How often a message comes, where that is said, and what stands behind it.
+#[derive(Clone, Copy, Debug)]
+struct Times<'f> {
+    times: Option<u32>,
+    rest: &'f str,
+}
+
+/// Reads `[times N]`.
+fn read_times(text: &str) -> Option<Times<'_>> {
+    let (repeated, rest) = take_word(text, "times");
+    if !repeated {
+        return Some(Times { times: None, rest });
+    }
+    let (number, rest) = split_word(rest);
+    let times = number.parse::<u32>().ok()?;
+    if times > MOST_TIMES {
+        return None;
+    }
+    Some(Times {
+        times: Some(times),
+        rest,
+    })
+}
+
+/// Reads `METHOD TARGET [by CALLER] [text|escaped] [times N] [close]`.
 fn read_ask(rest: &str) -> Option<Ask<'_>> {
     let (method, rest) = split_word(rest);
     let (target, rest) = split_word(rest);
@@ -229,6 +260,7 @@ fn read_ask(rest: &str) -> Option<Ask<'_>> {
     };
     let (text, rest) = take_word(rest, "text");
     let (escaped, rest) = take_word(rest, "escaped");
+    let Times { times, rest } = read_times(rest)?;
     let (close, rest) = take_word(rest, "close");
     let form = match (text, escaped) {
         (true, true) => return None,
@@ -244,6 +276,7 @@ fn read_ask(rest: &str) -> Option<Ask<'_>> {
         target,
         caller,
         form,
+        times,
         close,
     })
 }
@@ -256,7 +289,7 @@ struct Body<'f> {
     rest: &'f str,
 }
 
-/// Reads `[text|csv|escaped-text]`.
+/// Reads `[text|csv|escaped|escaped-text]`.
 fn read_body(text: &str) -> Body<'_> {
     let (word, rest) = split_word(text);
     match word {
@@ -268,6 +301,11 @@ fn read_body(text: &str) -> Body<'_> {
         "csv" => Body {
             media: "text/csv; charset=utf-8",
             form: Form::Lines,
+            rest,
+        },
+        "escaped" => Body {
+            media: "application/json",
+            form: Form::Escaped,
             rest,
         },
         "escaped-text" => Body {
@@ -283,7 +321,7 @@ fn read_body(text: &str) -> Body<'_> {
     }
 }
 
-/// Reads `STATUS [text|csv|escaped-text] [place N] [close]`.
+/// Reads `STATUS [text|csv|escaped|escaped-text] [place N] [times N] [close]`.
 fn read_answer(rest: &str) -> Option<Answer> {
     let (status, rest) = split_word(rest);
     let status = status.parse::<u16>().ok()?;
@@ -296,6 +334,7 @@ fn read_answer(rest: &str) -> Option<Answer> {
     } else {
         (None, rest)
     };
+    let Times { times, rest } = read_times(rest)?;
     let (close, rest) = take_word(rest, "close");
     if !rest.is_empty() {
         return None;
@@ -305,6 +344,7 @@ fn read_answer(rest: &str) -> Option<Answer> {
         media: body.media,
         form: body.form,
         place,
+        times,
         close,
     })
 }

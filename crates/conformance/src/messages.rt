@@ -1,6 +1,6 @@
 //! Requests and answers, and their bytes.
 use crate::cases::Section;
-use crate::escapes::content;
+use crate::escapes::content_in;
 use crate::headers::{Answer, Ask, Header, reason};
 use crate::malformed::Malformed;
 use std::alloc::Global;
@@ -13,14 +13,15 @@ fn closing(close: bool) -> &'static str {
     if close { "Connection: close\r\n" } else { "" }
 }
 
-/// Appends the bytes of a request.
+/// Appends the bytes of a request, in a turn where it comes several times.
 fn push_ask(
     alloc: Global,
     input: &mut Vec<u8>,
     ask: Ask<'_>,
     section: &Section<'_>,
+    turn: Option<u32>,
 ) -> Result<(), Malformed> {
-    let body = content(alloc, section, ask.form)?;
+    let body = content_in(alloc, section, ask.form, turn)?;
     let Ask {
         method,
         target,
@@ -40,15 +41,16 @@ fn push_ask(
     Ok(())
 }
 
-/// Appends the bytes of an answer that speaks of this place.
+/// Appends the bytes of an answer that speaks of this place, in a turn where it comes several times.
 fn push_answer(
     alloc: Global,
     console: &mut Vec<u8>,
     answer: Answer,
     place: u64,
     section: &Section<'_>,
+    turn: Option<u32>,
 ) -> Result<(), Malformed> {
-    let body = content(alloc, section, answer.form)?;
+    let body = content_in(alloc, section, answer.form, turn)?;
     let Answer { status, media, .. } = answer;
     let phrase = reason(status).unwrap_or("");
     let length = body.len();
@@ -61,12 +63,45 @@ fn push_answer(
     Ok(())
 }
 
+/// Appends the bytes of a request, as often as it comes.
+fn push_asks(
+    alloc: Global,
+    input: &mut Vec<u8>,
+    ask: Ask<'_>,
+    section: &Section<'_>,
+) -> Result<(), Malformed> {
+    let Some(times) = ask.times else {
+        return push_ask(alloc, input, ask, section, None);
+    };
+    for turn in 0..times {
+        push_ask(alloc, input, ask, section, Some(turn))?;
+    }
+    Ok(())
+}
+
+/// Appends the bytes of an answer that speaks of this place, as often as it comes.
+fn push_answers(
+    alloc: Global,
+    console: &mut Vec<u8>,
+    answer: Answer,
+    place: u64,
+    section: &Section<'_>,
+) -> Result<(), Malformed> {
+    let Some(times) = answer.times else {
+        return push_answer(alloc, console, answer, place, section, None);
+    };
+    for turn in 0..times {
+        push_answer(alloc, console, answer, place, section, Some(turn))?;
+    }
+    Ok(())
+}
+
 /// The bytes of the requests among these sections, one behind the other.
 pub fn requests(alloc: Global, sections: &[Section<'_>]) -> Result<Vec<u8>, Malformed> {
     let mut input = Vec::new(alloc);
     for section in sections {
         if let Header::Ask(ask) = section.header {
-            push_ask(alloc, &mut input, ask, section)?;
+            push_asks(alloc, &mut input, ask, section)?;
         }
     }
     Ok(input)
@@ -79,7 +114,7 @@ pub fn answers(alloc: Global, sections: &[Section<'_>]) -> Result<Vec<u8>, Malfo
     for section in sections {
         if let Header::Answer(answer) = section.header {
             place = answer.place.unwrap_or(place);
-            push_answer(alloc, &mut console, answer, place, section)?;
+            push_answers(alloc, &mut console, answer, place, section)?;
         }
     }
     Ok(console)
