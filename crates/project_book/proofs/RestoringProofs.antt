@@ -10,3 +10,10 @@ pub mod FirstLemmas
 pub mod DoubledLemmas
 pub mod WantLemmas
 pub mod RowOrderLemmas
+pub mod WalkLemmas
+pub mod HeldOrderLemmas
+pub mod SizesLemmas
+pub mod ParkedLemmas
+pub mod VerdictLemmas
+pub mod JudgedLemmas
+pub mod StandLemmas

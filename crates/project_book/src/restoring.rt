@@ -14,20 +14,26 @@
 mod ascending;
 mod begun;
 mod doubled;
+mod held_order;
+mod judged;
 mod known;
 mod layer_pieces;
 mod layers_kept;
 mod looking;
+mod parked;
 mod pieces;
 mod restoring;
 mod row_order;
 mod rows;
 mod rows_kept;
 mod said_lines;
+mod said_verdicts;
 mod shots;
+mod sizes;
 mod snapshots_kept;
 mod so_far;
 mod sound;
+mod stand_in;
 mod wanted;
 mod whole;
 

@@ -46,7 +46,7 @@ piece_at s (x ∷ xs) more beyond place doc e low within inside =
     ∙ doc_at s.documents _ xs more beyond place doc (tail_same x (entry_bytes (first_piece s)) (take place xs ++ more) (map entry_bytes (others s) ++ beyond) all) low (omega arith) inside
 
 -- the first entry is the first piece
-first_told : (s : ProjectState) (entries more beyond : List (List ℕ)) (place : ℕ) (first : List ℕ) → slice_get entries 0 ≡ Some first → take (suc place) entries ++ more ≡ map entry_bytes (pieces_of s) ++ beyond → entry_bytes (first_piece s) ≡ first
+pub first_told : (s : ProjectState) (entries more beyond : List (List ℕ)) (place : ℕ) (first : List ℕ) → slice_get entries 0 ≡ Some first → take (suc place) entries ++ more ≡ map entry_bytes (pieces_of s) ++ beyond → entry_bytes (first_piece s) ≡ first
 unfolding others
 first_told s [] more beyond place first is e = absurd (none_some first is)
 first_told s (x ∷ xs) more beyond place first is e =

@@ -2,6 +2,7 @@
 ghost use Rattle.std.specs.Prelude.{IfOk, IfSome};
 ghost use Rattle.layer_model.specs.Coherent.{IsCoherent};
 
+use crate::restoring::said_verdicts::verdicts_of;
 use ann_reader::{AnnFault, read_ann};
 use char_documents::Doc;
 use command_bytes::{Scripts, read_scripts};
@@ -10,7 +11,7 @@ use curator_decisions::Verdict;
 use entry_bytes::Entry;
 use layer_model::Layer;
 use layer_rules::well_formed_layers_cohere;
-use mark_base::{AnnId, Kind, Memory, Slug, Text};
+use mark_base::{Memory, Slug, Text};
 use std::alloc::Global;
 use unanimous_merge::ItemId;
 
@@ -82,56 +83,6 @@ pub(crate) fn draft_in(
         Some(Entry::Draft { commands }) => read_scripts(alloc, commands.items(), doc, conf),
         _ => Ok(None),
     }
-}
-
-/// The letter of a place among T, E, R, A, M, N and #.
-fn letter_at(place: u8) -> Option<Kind> {
-    match place {
-        0 => Some(Kind::Text),
-        1 => Some(Kind::Event),
-        2 => Some(Kind::Relation),
-        3 => Some(Kind::Attribute),
-        4 => Some(Kind::Legacy),
-        5 => Some(Kind::Normal),
-        6 => Some(Kind::Note),
-        _ => None,
-    }
-}
-
-/// The verdict of seven bytes, with its item.
-fn verdict_of(bytes: [u8; 7]) -> Option<(ItemId, Verdict)> {
-    let [holder, letter, low, second, third, high, accept] = bytes;
-    let number = u32::from_le_bytes([low, second, third, high]);
-    let id = AnnId::new(letter_at(letter)?, number)?;
-    let verdict = if accept == 0 {
-        Verdict::Reject
-    } else {
-        Verdict::Accept
-    };
-    Some((ItemId { holder, id }, verdict))
-}
-
-/// The verdicts behind the four bytes of their number.
-fn verdicts_of(alloc: Global, bytes: &[u8]) -> Result<Option<Vec<(ItemId, Verdict)>>, Memory> {
-    let mut pairs = Vec::new(alloc);
-    let mut place = 4;
-    while place < bytes.len() && bytes.len() - place >= 7 {
-        let one = [
-            bytes[place],
-            bytes[place + 1],
-            bytes[place + 2],
-            bytes[place + 3],
-            bytes[place + 4],
-            bytes[place + 5],
-            bytes[place + 6],
-        ];
-        match verdict_of(one) {
-            Some(pair) => pairs.push(pair)?,
-            None => return Ok(None),
-        }
-        place += 7;
-    }
-    Ok(Some(pairs))
 }
 
 /// The verdicts on a snapshot.

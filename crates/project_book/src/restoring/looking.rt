@@ -11,9 +11,13 @@ ghost use Rattle.project_book.specs.Restoring.Following.{IsKnownBy, IsLook, IsNo
 use crate::replaying::are_same;
 use crate::restoring::begun::begins_run;
 use crate::restoring::doubled::doubled_name;
+use crate::restoring::held_order::misplaced_layer;
+use crate::restoring::judged::refused_verdicts;
 use crate::restoring::known::{Known, known_by};
+use crate::restoring::parked::refused_draft;
 use crate::restoring::row_order::misplaced_row;
 use crate::restoring::said_lines::lines_stand;
+use crate::restoring::sizes::overlong_piece;
 use crate::restoring::so_far::{Before, SoFar, behind, fits};
 use ann_writer::written_layers_are_utf8;
 use annotation_conf::sound_configurations_are_read_back;
@@ -116,15 +120,39 @@ fn lesser(first: Option<usize>, second: Option<usize>) -> Option<usize>
     }
 }
 
+/// The lowest number that is found up to which no state has the run with which some entries begin, for the names of its
+/// documents and the order of its rows and of the layers of its snapshots.
+fn fault_of_order(alloc: Global, entries: &[Bytes]) -> Result<Option<usize>, Memory>
+    requires { StartsRun entries.now }
+    ensures { IfOk result (λ found. IfSome found (IsNoneUpTo entries.now)) }
+{
+    let doubled = doubled_name(alloc, entries)?;
+    let row = misplaced_row(alloc, entries)?;
+    let layer = misplaced_layer(alloc, entries)?;
+    Ok(lesser(lesser(doubled, row), layer))
+}
+
+/// The lowest number that is found up to which no state has the run with which some entries begin, for the length of its
+/// pieces, and for what is parked and decided.
+fn fault_of_contents(alloc: Global, entries: &[Bytes]) -> Result<Option<usize>, Memory>
+    requires { StartsRun entries.now }
+    ensures { IfOk result (λ found. IfSome found (IsNoneUpTo entries.now)) }
+{
+    let long = overlong_piece(alloc, entries)?;
+    let parked = refused_draft(alloc, entries)?;
+    let decided = refused_verdicts(alloc, entries)?;
+    Ok(lesser(lesser(long, parked), decided))
+}
+
 /// The lowest number that is found up to which no state has the run with which some entries begin.
 fn fault_found(alloc: Global, entries: &[Bytes]) -> Result<Option<usize>, Memory>
     requires { StartsRun entries.now }
     ensures { IfOk result (λ found. IfSome found (IsNoneUpTo entries.now)) }
 {
     let looked = fault_in(alloc, entries)?;
-    let doubled = doubled_name(alloc, entries)?;
-    let misplaced = misplaced_row(alloc, entries)?;
-    Ok(lesser(lesser(looked, doubled), misplaced))
+    let order = fault_of_order(alloc, entries)?;
+    let contents = fault_of_contents(alloc, entries)?;
+    Ok(lesser(lesser(looked, order), contents))
 }
 
 /// Whether the entry of this number, up to which no history begins, is the first such: those before it begin one.

@@ -19,7 +19,12 @@ use mark_base::{Bytes, Memory, Text};
 use std::alloc::Global;
 
 /// The layer of .ann lines, where they are those of one and at most 16,777,216 bytes.
-fn layer_said(alloc: Global, lines: &Text, doc: &Doc, conf: &Conf) -> Result<Option<Layer>, Memory>
+pub(crate) fn layer_said(
+    alloc: Global,
+    lines: &Text,
+    doc: &Doc,
+    conf: &Conf,
+) -> Result<Option<Layer>, Memory>
     ensures told { IfOk result (ReadsLayer conf.now doc.now lines.now) }
     ensures well { IfOk result (λ found. IfSome found (λ layer. IsWellFormed conf.now (length doc.now) layer)) }
 {
@@ -96,7 +101,7 @@ fn text_in_piece(
 }
 
 /// The text of the document of a number in a run.
-fn text_in(alloc: Global, entries: &[Bytes], doc: u32) -> Result<Option<Doc>, Memory>
+pub(crate) fn text_in(alloc: Global, entries: &[Bytes], doc: u32) -> Result<Option<Doc>, Memory>
     ensures { IfOk result (λ found. IfSome found (IsTextIn entries.now doc)) }
 {
     let place = doc as usize + 1;

@@ -72,7 +72,7 @@ fn read_holders(
 }
 
 /// The snapshot of some layers, where they are those of one.
-fn snapshot_of(rows: Vec<(Slug, Arc<Layer>)>) -> Option<Snapshot>
+pub(crate) fn snapshot_of(rows: Vec<(Slug, Arc<Layer>)>) -> Option<Snapshot>
     ensures { IfSome result (λ snapshot. snapshot ≡ map row_of rows.items) }
 {
     let count = rows.len();

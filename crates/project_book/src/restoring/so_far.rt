@@ -43,7 +43,7 @@ fn one_text_fewer(wanted: u32) -> u32
 }
 
 /// One layer fewer, or none.
-fn one_layer_fewer(wanted: u8) -> u8
+pub(crate) fn one_layer_fewer(wanted: u8) -> u8
     ensures { result ≡ one_fewer wanted }
 {
     if wanted == 0 { 0 } else { wanted - 1 }

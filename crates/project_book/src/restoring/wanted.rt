@@ -11,9 +11,6 @@ use mark_base::{Bytes, Memory, Slug, Text};
 use std::alloc::Global;
 use std::str;
 
-/// The most snapshots that a run is gone on with.
-const MOST_SNAPSHOTS: u64 = 65_536;
-
 /// How many names there are for the documents that are wanted: twice as many as a project has documents.
 const NEW_NAMES: u32 = 8_192;
 
@@ -187,8 +184,9 @@ fn rest_of(alloc: Global, known: &Known, seen: &Seen) -> Result<Vec<Bytes>, Memo
     Ok(run.into_vec())
 }
 
-/// What a run of pieces wants behind its first ones, of which there is one at least. `None` where they are no pieces, or
-/// where more than 65,536 snapshots are wanted. Cost: the bytes of the pieces, and what is wanted.
+/// What a run of pieces wants behind its first ones, of which there is one at least. `None` where they are no pieces.
+/// Cost: the bytes of the pieces, and what is wanted. Each snapshot that the first piece says and none begins is among
+/// that, so `begun.rt` asks it of a first piece that says few.
 pub(crate) fn pieces_wanted(alloc: Global, front: &[Bytes]) -> Result<Option<Vec<Bytes>>, Memory> {
     let Some(first) = front.first() else {
         return Ok(None);
@@ -199,8 +197,5 @@ pub(crate) fn pieces_wanted(alloc: Global, front: &[Bytes]) -> Result<Option<Vec
     let Some(seen) = seen_of(alloc, front, &known)? else {
         return Ok(None);
     };
-    if MOST_SNAPSHOTS < seen.so_far.shots {
-        return Ok(None);
-    }
     Ok(Some(rest_of(alloc, &known, &seen)?))
 }
