@@ -7,7 +7,7 @@ use std::alloc::Global;
 
 /// Every command in a line with an example, what each status means, and where the documents are.
 const HELP: &str = "annotate WORDS: text annotation by several people, and its curation.
-BOOK is the file of a project. Each other file is only read.
+BOOK, OLD and NEW are files of projects. Each other file is only read.
 
   try CONF TEXT                  serves a project in memory on the console, from a desk on its one text
       annotate try news.conf news.txt <requests

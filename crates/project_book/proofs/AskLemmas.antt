@@ -21,7 +21,7 @@ use Rattle.project_state.specs.Values.{answer_of}
 use Rattle.project_steps.specs.declared.steps.judging.Judged.{Judged}
 use Rattle.project_steps.specs.declared.steps.judging.Kept.{Kept}
 use Rattle.project_steps.specs.Steps.Judging.{IsJudged, IsKeptChange, kept_happens}
-use Rattle.project_book.specs.Keeping.{BookValue, Follows, GoesAlong, Stands, TellsKeeper}
+use Rattle.project_book.specs.Keeping.{BookValue, Follows, GoesAlong, Stands, TellsKeeper, tabling_behind}
 use Rattle.project_book.specs.Answering.{IsAnswered, answer_behind}
 use Rattle.project_book.specs.Replaying.{IsMadeBy}
 use Rattle.project_book.proofs.StepLemmas.{never_keeper}
@@ -84,7 +84,7 @@ module _ {K : Type 0} (kept : K → Option (List (List ℕ))) (doubt : K → Opt
     doubted = doubt_still old.log caller asked (Refused no.Memory []) (doubt old.keeper) memory_keeper;
     any_moment = moment_still old caller asked by now;
     keeper = still_told old.keeper (Refused no.Memory [] ≡ Refused no.Keeper []) memory_keeper;
-    tables = along_still old.tables old.tables ticks refl;
+    tables = along_still old.log old.log old.tables old.tables ticks refl refl;
   }
 
   step_not : (log : List Happened) (caller : List ℕ) (asked : Asked) (answer : Answered) → answer ≡ (step (after log) caller asked).answer → answer ≡ Refused no.Keeper [] → ⊥
@@ -106,7 +106,7 @@ module _ {K : Type 0} (kept : K → Option (List (List ℕ))) (doubt : K → Opt
     doubted = doubt_still old.log caller asked answer (doubt old.keeper) (step_not old.log caller asked answer is);
     any_moment = moment_still old caller asked by now;
     keeper = still_told old.keeper (answer ≡ Refused no.Keeper []) (step_not old.log caller asked answer is);
-    tables = along_still old.tables old.tables ticks refl;
+    tables = along_still old.log old.log old.tables old.tables ticks refl refl;
   }
 
   -- ---- a change was handed to the keeper
@@ -139,7 +139,7 @@ module _ {K : Type 0} (kept : K → Option (List (List ℕ))) (doubt : K → Opt
       → answer ≡ (step (after old.log) caller asked).answer → (step (after old.log) caller asked).change ≡ Some (kept_happens change) → IsKeptChange (after old.log) change
       → new.log ≡ old.log ++ kept_happens change ∷ [] → HasRoom (old.log ++ kept_happens change ∷ []) → doubt new.keeper ≡ None
       → ((entries : List (List ℕ)) → kept old.keeper ≡ Some entries → LeavesOnly moment left_since old.keeper new.keeper (IsKeptOrOneMore entries (doubt old.keeper) change.entry))
-      → (failed : Type 0) → (failed → ⊥) → TellsKeeper faults faultless old.keeper new.keeper failed → GoesAlong old.tables new.tables before now
+      → (failed : Type 0) → (failed → ⊥) → TellsKeeper faults faultless old.keeper new.keeper failed → GoesAlong (tabling_behind old.log new.log) old.tables new.tables before now
       → IsAnswered kept doubt moment left_since faults faultless old new caller asked answer before now
   was_kept old new caller asked answer change before now by is made change_is more room none left failed not_so told along = record {
     step = steps is (more ∙ sym (one_more old.log caller asked (kept_happens change) made)) (λ _. subst HasRoom (sym more) room);
@@ -159,7 +159,7 @@ module _ {K : Type 0} (kept : K → Option (List (List ℕ))) (doubt : K → Opt
       → (step (after old.log) caller asked).change ≡ Some (kept_happens change) → IsKeptChange (after old.log) change
       → new.log ≡ old.log → HasRoom (old.log ++ kept_happens change ∷ []) → StaysOrGoes (doubt old.keeper) (doubt new.keeper) ⊎ (doubt new.keeper ≡ Some change.entry)
       → ((entries : List (List ℕ)) → kept old.keeper ≡ Some entries → LeavesOnly moment left_since old.keeper new.keeper (IsKeptOrOneMore entries (doubt old.keeper) change.entry))
-      → (failed : Type 0) → failed → TellsKeeper faults faultless old.keeper new.keeper failed → GoesAlong old.tables new.tables before now
+      → (failed : Type 0) → failed → TellsKeeper faults faultless old.keeper new.keeper failed → GoesAlong (tabling_behind old.log new.log) old.tables new.tables before now
       → IsAnswered kept doubt moment left_since faults faultless old new caller asked (Refused no.Keeper []) before now
   has_failed old new caller asked change before now by made change_is same room said left failed so told along = record {
     step = is_not_kept refl same (some_made old.log caller asked (kept_happens change) made) (subst HasRoom (sym (one_more old.log caller asked (kept_happens change) made)) room);
@@ -178,7 +178,7 @@ module _ {K : Type 0} (kept : K → Option (List (List ℕ))) (doubt : K → Opt
       → (step (after old.log) caller asked).change ≡ Some (kept_happens change) → IsKeptChange (after old.log) change
       → new.log ≡ old.log → StaysOrGoes (doubt old.keeper) (doubt new.keeper)
       → ((entries : List (List ℕ)) → kept old.keeper ≡ Some entries → LeavesOnly moment left_since old.keeper new.keeper (IsKeptOrOneMore entries (doubt old.keeper) change.entry))
-      → (failed : Type 0) → (failed → ⊥) → TellsKeeper faults faultless old.keeper new.keeper failed → GoesAlong old.tables new.tables before now
+      → (failed : Type 0) → (failed → ⊥) → TellsKeeper faults faultless old.keeper new.keeper failed → GoesAlong (tabling_behind old.log new.log) old.tables new.tables before now
       → IsAnswered kept doubt moment left_since faults faultless old new caller asked (Refused no.Memory []) before now
   had_no_memory old new caller asked change before now by made change_is same said left failed not_so told along = record {
     step = wants_memory refl same;
@@ -213,7 +213,7 @@ module _ {K : Type 0} (kept : K → Option (List (List ℕ))) (doubt : K → Opt
       → IsJudged (after old.log) caller asked judged → judged.kept ≡ Some change
       → new.log ≡ old.log ++ kept_happens change ∷ [] → HasRoom (old.log ++ kept_happens change ∷ []) → doubt new.keeper ≡ None
       → ((entries : List (List ℕ)) → kept old.keeper ≡ Some entries → LeavesOnly moment left_since old.keeper new.keeper (IsKeptOrOneMore entries (doubt old.keeper) change.entry))
-      → TellsKeeper faults faultless old.keeper new.keeper (IsErrOf (Ok x) keeper.Failed) → GoesAlong old.tables new.tables before now
+      → TellsKeeper faults faultless old.keeper new.keeper (IsErrOf (Ok x) keeper.Failed) → GoesAlong (tabling_behind old.log new.log) old.tables new.tables before now
       → IsAnswered kept doubt moment left_since faults faultless old new caller asked (answer_of judged.reply) before now
   keeps_it x old new caller asked judged change before now by is there more room none left told along =
       was_kept old new caller asked (answer_of judged.reply) change before now by is.answer (made_by (after old.log) caller asked judged change is there) (kept_by (after old.log) caller asked judged change is there)
@@ -225,7 +225,7 @@ module _ {K : Type 0} (kept : K → Option (List (List ℕ))) (doubt : K → Opt
       → new.log ≡ old.log → (IsErrOf {T = T} (Err f) keeper.Failed → HasRoom (old.log ++ kept_happens change ∷ []))
       → (IsErrOf {T = T} (Err f) keeper.Failed → StaysOrGoes (doubt old.keeper) (doubt new.keeper) ⊎ (doubt new.keeper ≡ Some change.entry)) → (IsErrOf {T = T} (Err f) keeper.Memory → StaysOrGoes (doubt old.keeper) (doubt new.keeper))
       → ((entries : List (List ℕ)) → kept old.keeper ≡ Some entries → LeavesOnly moment left_since old.keeper new.keeper (IsKeptOrOneMore entries (doubt old.keeper) change.entry))
-      → TellsKeeper faults faultless old.keeper new.keeper (IsErrOf {T = T} (Err f) keeper.Failed) → GoesAlong old.tables new.tables before now
+      → TellsKeeper faults faultless old.keeper new.keeper (IsErrOf {T = T} (Err f) keeper.Failed) → GoesAlong (tabling_behind old.log new.log) old.tables new.tables before now
       → IsAnswered kept doubt moment left_since faults faultless old new caller asked (answer_behind (Err f)) before now
   refuses_it keeper.Failed old new caller asked judged change before now by is there same room said memory left told along =
       has_failed old new caller asked change before now by (made_by (after old.log) caller asked judged change is there) (kept_by (after old.log) caller asked judged change is there)

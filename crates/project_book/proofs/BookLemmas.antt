@@ -1,6 +1,7 @@
 -- What a book keeps, behind a change that was kept and behind one that was not.
-use Rattle.std.proofs.Common.{◌≡◌, ◌⊎◌, ℕ, ◌+◌, ◌-◌, ◌<◌, ◌≤◌, ◌^◌, List, [], ◌∷◌, ◌++◌, length, map, Option, Some, None, IfSome, option_map, refl, sym, ◌∙◌, ap, subst, arith, inl, inr}
+use Rattle.std.proofs.Common.{◌≡◌, ◌⊎◌, ℕ, ◌+◌, ◌-◌, ◌<◌, ◌≤◌, ◌^◌, List, [], ◌∷◌, ◌++◌, length, map, slice_get, Option, Some, None, IfSome, option_map, refl, sym, ◌∙◌, ap, subst, arith, inl, inr}
 use Rattle.std.specs.Prelude.{Result, Err, IsErrOf}
+use Rattle.std.specs.Option.{option_map_or}
 use Rattle.std.proofs.lemmas.List.{length-map, map-append}
 use Rattle.mark_base.specs.Streams.{TellsFault}
 use Rattle.project_journal.specs.declared.keeper.KeeperFault.{KeeperFault}
@@ -28,8 +29,8 @@ use Rattle.project_steps.specs.declared.steps.judging.Kept.{Kept}
 use Rattle.project_steps.specs.Steps.Judging.{kept_happens}
 use Rattle.project_state.specs.declared.tables.tabling.TableAct.{TableAct}
 use Rattle.project_state.specs.declared.tables.tabling.TableAct.TheVariants as table
-use Rattle.project_state.specs.Tables.Tabling.{CanTable, HasSpare, IsTableAct, most_steps, spare_behind, tabled}
-use Rattle.project_book.specs.Keeping.{AreTables, Follows, GoesAlong, Stands, TellsKeeper}
+use Rattle.project_state.specs.Tables.Tabling.{CanTable, HasSpare, IsTableAct, most_steps, spare_behind, tabled, tabling_by, tabling_of}
+use Rattle.project_book.specs.Keeping.{AreTables, Follows, GoesAlong, Stands, TellsKeeper, tabling_behind}
 use Rattle.project_book.proofs.EntryLemmas.{Goes, by_freeing, by_request, goes}
 
 -- ---- the history goes on
@@ -129,17 +130,40 @@ spare_free (table.Post doc rater row) tables spare = refl
 spare_free (table.Drop doc rater) tables spare = refl
 spare_free table.Nothing tables spare = refl
 
-pub along : (t : TableAct) (old roomed new : Standing) (before now : ℕ) → roomed ≡ record old { spare = roomed.spare } → new ≡ tabled t roomed → now ≤ before + most_steps t roomed → GoesAlong old new before now
-along t old roomed new before now same made few = record {
-  act = t;
+-- what stands behind a list
+get_behind : {X : Type 0} (xs : List X) → slice_get xs (length xs) ≡ None
+get_behind [] = refl
+get_behind (x ∷ xs) = get_behind xs
+
+get_pushed : {X : Type 0} (xs : List X) (x : X) → slice_get (xs ++ x ∷ []) (length xs) ≡ Some x
+get_pushed [] x = refl
+get_pushed (y ∷ xs) x = get_pushed xs x
+
+-- what is done to the tables where nothing happens, and behind one change
+tabling_none : (log now : List Happened) → now ≡ log → tabling_behind log now ≡ table.Nothing
+tabling_none log now same = ap (λ o. option_map_or (tabling_of (after log)) o table.Nothing) (ap (λ (l : List Happened). slice_get l (length log)) same ∙ get_behind log)
+
+tabling_one : (log now : List Happened) (e : Happened) → now ≡ log ++ e ∷ [] → tabling_behind log now ≡ tabling_of (after log) e
+tabling_one log now e more = ap (λ o. option_map_or (tabling_of (after log)) o table.Nothing) (ap (λ (l : List Happened). slice_get l (length log)) more ∙ get_pushed log e)
+
+along_one : (t : TableAct) (old roomed new : Standing) (before now : ℕ) → roomed ≡ record old { spare = roomed.spare } → new ≡ tabled t roomed → now ≤ before + most_steps t roomed → GoesAlong t old new before now
+along_one t old roomed new before now same made few = record {
   spare = roomed.spare;
   moved = made ∙ ap (tabled t) same;
   few = subst (λ n. now ≤ before + n) (ap (most_steps t) same ∙ spare_free t old roomed.spare) few;
 }
 
+-- the act of a change was done to the tables, with room made
+pub along : (log now : List Happened) (kept : Kept) (state : ProjectState) (t : TableAct) (old roomed new : Standing) (before behind : ℕ) → Follows log kept → now ≡ log ++ kept_happens kept ∷ [] → state ≡ after log → IsTableAct state kept.act t
+    → roomed ≡ record old { spare = roomed.spare } → new ≡ tabled t roomed → behind ≤ before + most_steps t roomed → GoesAlong (tabling_behind log now) old new before behind
+along log now kept state t old roomed new before behind next more here tabling same made few =
+    let is : t ≡ tabling_behind log now = tabling.is ∙ (ap (λ (s : ProjectState). tabling_by s kept.act) here ∙ (next.change.tables ∙ sym (tabling_one log now (kept_happens kept) more))) in
+    subst (λ (x : TableAct). GoesAlong x old new before behind) is (along_one t old roomed new before behind same made few)
+
 -- nothing was done to the tables but to make room
-pub along_still : (old new : Standing) (steps : ℕ) → new ≡ record old { spare = new.spare } → GoesAlong old new steps steps
-along_still old new steps same = record { act = table.Nothing; spare = new.spare; moved = same; few = omega arith }
+pub along_still : (log now : List Happened) (old new : Standing) (steps : ℕ) → now ≡ log → new ≡ record old { spare = new.spare } → GoesAlong (tabling_behind log now) old new steps steps
+along_still log now old new steps still same =
+    subst (λ (x : TableAct). GoesAlong x old new steps steps) (sym (tabling_none log now still)) (record { spare = new.spare; moved = same; few = omega arith })
 
 -- ---- the groups stay
 

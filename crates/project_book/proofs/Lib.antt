@@ -6,6 +6,7 @@ mod FoundingLemmas
 mod VisitLemmas
 mod RestoredLemmas
 mod AcceptLemmas
+mod ViewLemmas
 mod EntryLemmas
 mod ReplayLemmas
 mod BegunLemmas

@@ -31,6 +31,7 @@ use Rattle.project_state.specs.declared.act.Act.TheVariants as act
 use Rattle.project_state.specs.declared.change.Change.TheVariants as change
 use Rattle.project_state.specs.Acting.{CanAct, FitsRows, performed}
 use Rattle.project_state.specs.Values.{happened_of}
+use Rattle.project_state.specs.Tables.Tabling.{tabling_by, tabling_of}
 use Rattle.project_steps.specs.declared.steps.judging.Kept.{Kept}
 use Rattle.project_steps.specs.Steps.Judging.{kept_happens}
 use Rattle.project_book.specs.Founding.{founded}
@@ -419,6 +420,7 @@ freeing_kept log kept legal out is_change is_entry is_act =
           entry = is_entry ∙ sym (ap (λ e. entry_bytes (entry_of (after log) e)) happens);
           short = subst (λ (b : List ℕ). length b ≤ 16777216) (sym (is_entry ∙ freeing_is)) (omega arith);
           acts = ap (λ (a : Act). performed a (after log)) is_act ∙ sym (ap (λ e. effect ((after log).place + 1) e (after log)) happens);
+          tables = ap (λ (a : Act). tabling_by (after log) a) is_act ∙ sym (ap (λ e. tabling_of (after log) e) happens);
           can = subst (λ (a : Act). CanAct a (after log)) (sym is_act) tt;
           fits = subst (λ (a : Act). FitsRows a (after log)) (sym is_act) tt;
         };

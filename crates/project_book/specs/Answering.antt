@@ -8,7 +8,7 @@ use Rattle.project_machine.specs.Requests.{Asked, Answered, Refused}
 use Rattle.project_machine.specs.Asking.{IsDoubted, IsLeftByAsk, IsStep}
 use Rattle.project_state.specs.declared.reply.Reply.{Reply}
 use Rattle.project_state.specs.Values.{answer_of}
-use Rattle.project_book.specs.Keeping.{BookValue, GoesAlong, TellsKeeper}
+use Rattle.project_book.specs.Keeping.{BookValue, GoesAlong, TellsKeeper, tabling_behind}
 
 -- what is answered: a reply, or that the keeper failed or memory ran out, which names nothing
 abbrev pub answer_behind : Result Reply KeeperFault → Answered
@@ -23,4 +23,4 @@ pub record IsAnswered {K : Type 0} (kept : K → Option (List (List ℕ))) (doub
   pub doubted : IsDoubted old.log caller asked answer new.log (doubt old.keeper) (doubt new.keeper)
   pub any_moment : (entries : List (List ℕ)) → kept old.keeper ≡ Some entries → LeavesOnly moment left_since old.keeper new.keeper (IsLeftByAsk old.log (doubt old.keeper) caller asked)
   pub keeper : TellsKeeper faults faultless old.keeper new.keeper (answer ≡ Refused no.Keeper [])
-  pub tables : GoesAlong old.tables new.tables steps_old steps_new
+  pub tables : GoesAlong (tabling_behind old.log new.log) old.tables new.tables steps_old steps_new

@@ -1,5 +1,6 @@
 -- What a book keeps between two calls, and what a call of it does to its tables and its keeper.
-use Rattle.std.specs.Prelude.{◌≡◌, ℕ, ◌+◌, ◌≤◌, List, [], ◌∷◌, ◌++◌, Option}
+use Rattle.std.specs.Prelude.{◌≡◌, ℕ, ◌+◌, ◌≤◌, List, [], ◌∷◌, ◌++◌, length, slice_get, Option}
+use Rattle.std.specs.Option.{option_map_or}
 use Rattle.mark_base.specs.Streams.{TellsFault}
 use Rattle.label_tracks.specs.Levels.{Grouping, grouping_of}
 use Rattle.kappa_alpha.specs.Standing.{Standing}
@@ -10,7 +11,8 @@ use Rattle.project_machine.specs.Legal.{HasRoom, IsLegal}
 use Rattle.project_machine.specs.Tables.{standing_of}
 use Rattle.project_machine.specs.Asking.{IsKeptBy}
 use Rattle.project_state.specs.declared.tables.tabling.TableAct.{TableAct}
-use Rattle.project_state.specs.Tables.Tabling.{most_steps, tabled}
+use Rattle.project_state.specs.declared.tables.tabling.TableAct.TheVariants as table
+use Rattle.project_state.specs.Tables.Tabling.{most_steps, tabled, tabling_of}
 use Rattle.project_steps.specs.declared.steps.judging.Kept.{Kept}
 use Rattle.project_steps.specs.Steps.Judging.{IsKeptChange, kept_happens}
 
@@ -38,9 +40,12 @@ pub record Follows (log : List Happened) (kept : Kept) : Type 0 where
   pub legal : IsLegal (log ++ kept_happens kept ∷ [])
   pub change : IsKeptChange (after log) kept
 
--- the tables went along: of those before, with room made for some documents, one act makes those behind, in no more steps than the act takes
-pub record GoesAlong (old new : Standing) (steps_old steps_new : ℕ) : Type 0 where
-  pub act : TableAct
+-- what is done to the tables from a history to one that has one change more, or none: what that change does to them, or nothing
+abbrev pub tabling_behind : List Happened → List Happened → TableAct
+tabling_behind old new = option_map_or (tabling_of (after old)) (slice_get new (length old)) table.Nothing
+
+-- the tables went along: with room made for some documents this was done to them, in no more steps than it takes
+pub record GoesAlong (act : TableAct) (old new : Standing) (steps_old steps_new : ℕ) : Type 0 where
   pub spare : ℕ
   pub moved : new ≡ tabled act (record old { spare = spare })
   pub few : steps_new ≤ steps_old + most_steps act old

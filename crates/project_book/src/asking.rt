@@ -6,7 +6,7 @@ ghost use Rattle.project_machine.specs.Asking.{IsDoubted, IsLeftByAsk, IsStep};
 ghost use Rattle.project_machine.specs.Requests.{Refused};
 ghost use Rattle.project_state.specs.Values.{answer_of, asked_of};
 ghost use Rattle.project_book.specs.Answering.{IsAnswered, answer_behind};
-ghost use Rattle.project_book.specs.Keeping.{GoesAlong, TellsKeeper};
+ghost use Rattle.project_book.specs.Keeping.{GoesAlong, TellsKeeper, tabling_behind};
 
 use crate::book::Book;
 use mark_base::{Slug, Steps, Text};
@@ -68,8 +68,9 @@ impl<K: Keeper> Book<K> {
         ensures any_moment { (entries : List (List ℕ)) → K.kept self.old.keeper ≡ Some entries → LeavesOnly K.moment K.left_since self.old.keeper self.new.keeper (IsLeftByAsk self.old.log (K.doubt self.old.keeper) caller.now (asked_of request)) }
         // That the keeper failed is answered only where it counted a fault.
         ensures keeper { TellsKeeper K.faults K.faultless self.old.keeper self.new.keeper (answer_of result ≡ Refused no.Keeper []) }
-        // The tables go along, in no more steps than one act on them takes.
-        ensures tables { GoesAlong self.old.tables self.new.tables steps.old steps.new }
+        // The tables go along: the change does to them what it does by its definition, in no more steps than that
+        // takes. Where nothing happens they are as before, and no step is taken.
+        ensures tables { GoesAlong (tabling_behind self.old.log self.new.log) self.old.tables self.new.tables steps.old steps.new }
     {
         match self.try_ask(caller, request, steps) {
             Ok(reply) => reply,

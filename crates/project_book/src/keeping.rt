@@ -8,7 +8,7 @@ ghost use Rattle.project_machine.specs.Legal.{HasRoom, IsKept};
 ghost use Rattle.project_state.specs.Acting.{CanAct, FitsRows, HasMemory};
 ghost use Rattle.project_steps.specs.Steps.Judging.{kept_happens};
 ghost use Rattle.project_state.specs.Tables.Tabling.{IsTableAct};
-ghost use Rattle.project_book.specs.Keeping.{Follows, GoesAlong, TellsKeeper};
+ghost use Rattle.project_book.specs.Keeping.{Follows, GoesAlong, TellsKeeper, tabling_behind};
 
 use crate::book::Book;
 use entry_bytes::entries_have_bytes;
@@ -79,7 +79,7 @@ impl<K: Keeper> Book<K> {
         ensures doubt_memory { IsErrOf result KeeperFault.Memory → StaysOrGoes (K.doubt self.old.keeper) (K.doubt self.new.keeper) }
         ensures any_moment { (entries : List (List ℕ)) → K.kept self.old.keeper ≡ Some entries → LeavesOnly K.moment K.left_since self.old.keeper self.new.keeper (IsKeptOrOneMore entries (K.doubt self.old.keeper) kept.entry) }
         ensures keeper { TellsKeeper K.faults K.faultless self.old.keeper self.new.keeper (IsErrOf result KeeperFault.Failed) }
-        ensures tables { GoesAlong self.old.tables self.new.tables steps.old steps.new }
+        ensures tables { GoesAlong (tabling_behind self.old.log self.new.log) self.old.tables self.new.tables steps.old steps.new }
     {
         states_can_be_restored();
         entries_have_bytes();

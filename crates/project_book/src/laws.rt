@@ -4,10 +4,11 @@ ghost use Rattle.std.specs.Prelude.{◌≡◌, ◌≤◌, ◌^◌, ℕ, List, fa
 ghost use Rattle.entry_bytes.specs.Entries.{entry_bytes};
 ghost use Rattle.project_machine.specs.Entries.{pieces_of};
 ghost use Rattle.project_machine.specs.History.{after, encoded};
-ghost use Rattle.project_machine.specs.Legal.{AreAccepted, IsLegal, IsSound};
+ghost use Rattle.project_machine.specs.Legal.{AreAccepted, IsLegal, IsSound, IsViewAccepted};
+ghost use Rattle.project_machine.specs.Machine.{step};
 ghost use Rattle.project_machine.specs.Opening.{IsBadEntry};
 ghost use Rattle.project_machine.specs.ProjectState.{ProjectState, is_some_out};
-ghost use Rattle.project_machine.specs.Requests.{Happened};
+ghost use Rattle.project_machine.specs.Requests.{Happened, Taken, TakeSnapshot, View};
 
 use crate::state_pieces::states_are_told_apart;
 use curator_decisions::{decisions_stay_accepted, undecided_layers_are_accepted};
@@ -25,6 +26,14 @@ pub fn verdicts_are_accepted()
     undecided_layers_are_accepted();
     unflawed_layers();
     states_can_be_restored();
+}
+
+/// Every snapshot that is read is one from which a curator goes on: its verdicts are on items of its layers, no item
+/// that is in names one that is not, and the curated layer obeys the configuration that comes with it.
+pub fn views_are_accepted()
+    ensures { (log : List Happened) (caller : List ℕ) (number : ℕ) (view : View) → IsLegal log → (step (after log) caller (TakeSnapshot number)).answer ≡ Taken view → IsViewAccepted view }
+{
+    verdicts_are_accepted();
 }
 
 /// What was kept is without fault: no entry of a history is at fault, so `Book::open` answers of them that memory ran out

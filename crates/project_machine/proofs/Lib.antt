@@ -17,4 +17,4 @@ pub mod SnapshotLemmas
 mod StayLemmas
 pub mod StepLemmas
 pub mod VerdictLemmas
-mod ViewLemmas
+pub mod ViewLemmas

@@ -37,11 +37,17 @@ view_kept s shot k is = record {
   ascending = is.ascending;
 }
 
-pub read_kept : (s : ProjectState) (caller : List ℕ) (number : ℕ) (view : View) → IsKept s → (step s caller (TakeSnapshot number)).answer ≡ Taken view → IsViewKept view
-read_kept s caller number view k e =
+-- a snapshot that is read is there
+pub read_snapshot : (s : ProjectState) (caller : List ℕ) (number : ℕ) (view : View) → (step s caller (TakeSnapshot number)).answer ≡ Taken view → (0 < number) × (number ≤ length s.snapshots) × (view_of s (snapshot s number) ≡ view)
+read_snapshot s caller number view e =
     let told : (refusal s caller (TakeSnapshot number) ≡ None) × (view_of s (snapshot s number) ≡ view) = is_read s number (refusal s caller (TakeSnapshot number)) view e in
     let parts : ((number == 0) ≡ false) × (nat_lt (length s.snapshots) number ≡ false) =
     or_parts _ _ (when_none (number == 0 || nat_lt (length s.snapshots) number) no.NoSnapshot (or_first (taken s number) None (tests_free s caller (TakeSnapshot number) told.0))) in
-    let some : 0 < number = eq_none number parts.0 in
-    let most : number ≤ length s.snapshots = ltb-false (length s.snapshots) number parts.1 in
-    subst IsViewKept told.1 (view_kept s (snapshot s number) k (k.snapshots (number - 1) no_snapshot (omega arith)))
+    (eq_none number parts.0, ltb-false (length s.snapshots) number parts.1, told.1)
+
+pub read_kept : (s : ProjectState) (caller : List ℕ) (number : ℕ) (view : View) → IsKept s → (step s caller (TakeSnapshot number)).answer ≡ Taken view → IsViewKept view
+read_kept s caller number view k e =
+    let there : (0 < number) × (number ≤ length s.snapshots) × (view_of s (snapshot s number) ≡ view) = read_snapshot s caller number view e in
+    let some : 0 < number = there.0 in
+    let most : number ≤ length s.snapshots = there.1 in
+    subst IsViewKept there.2 (view_kept s (snapshot s number) k (k.snapshots (number - 1) no_snapshot (omega arith)))

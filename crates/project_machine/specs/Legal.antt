@@ -1,5 +1,5 @@
 -- Which histories there are, and what the state behind each keeps.
-use Rattle.std.specs.Prelude.{◌≡◌, ℕ, ◌+◌, ◌<◌, ◌≤◌, ◌^◌, ◌≢◌, true, false, List, [], ◌∷◌, ◌++◌, length, get_or, map, sum, None, Some, IfSome}
+use Rattle.std.specs.Prelude.{◌≡◌, ℕ, ◌<◌, ◌≤◌, ◌^◌, ◌≢◌, true, false, List, [], ◌∷◌, ◌++◌, length, get_or, map, sum, None, Some, IfSome}
 use Rattle.std.specs.List.{All}
 use Rattle.entry_bytes.specs.declared.entry.Entry.TheVariants as entry
 use Rattle.entry_bytes.specs.declared.person.Person.{Person}
@@ -117,13 +117,17 @@ DocumentObeys conf d = All (RowObeys conf (length d.text)) d.rows
 abbrev pub LayersObey : ProjectState → Type 0
 LayersObey s = All (DocumentObeys s.conf) s.documents
 
--- a view from which a curator can start: the text is one, 2 to 16 holders ascend, each layer is one of a program that obeys the configuration on the text, and the verdicts stand in the order of items
+-- a view as steps leave it: the text is one, 2 to 16 holders ascend, each layer is one of a program that obeys the configuration on the text, and the verdicts stand in the order of items
 pub record IsViewKept (view : View) : Type 0 where
   pub sound : configuration.IsSound view.conf
   pub is_text : IsDocText view.text
   pub are_holders : AreHolders view.holders
   pub layers : All (λ (held : List ℕ × Annotations). LayerObeys view.conf (length view.text) held.1) view.holders
   pub ascending : Ascend view.verdicts
+
+-- the verdicts of a view are accepted: they are on items, no item that is in names one that is not, and the curated layer obeys
+abbrev pub IsViewAccepted : View → Type 0
+IsViewAccepted view = decision_fault view.conf (length view.text) (readings view.holders) view.verdicts ≡ None
 
 -- two snapshots hold the same layers of the same document, whatever their verdicts
 pub record HoldsTheSame (old new : Snapshot) : Type 0 where

@@ -1,9 +1,9 @@
 //! Laws of histories. Each function but for a call of a law below does nothing; its contract is the law.
-ghost use Rattle.std.specs.Prelude.{◌≡◌, ◌≢◌, ◌⊎◌, ℕ, ◌<◌, ◌≤◌, ◌^◌, List, [], ◌∷◌, ◌++◌, length, IfSome, Some, false};
+ghost use Rattle.std.specs.Prelude.{◌≡◌, ◌≢◌, ◌⊎◌, Bool, ℕ, ◌<◌, ◌≤◌, ◌^◌, List, [], ◌∷◌, ◌++◌, count_by, length, IfSome, Some, false};
 ghost use Rattle.std.specs.List.{AllByRecursion};
 ghost use Rattle.entry_bytes.specs.declared.person.Person.{Person};
 ghost use Rattle.entry_bytes.specs.Fields.{IsSlug};
-ghost use Rattle.project_machine.specs.People.{IsOrdered, IsRoster};
+ghost use Rattle.project_machine.specs.People.{IsOrdered, IsRoster, in_name_order};
 ghost use Rattle.project_machine.specs.Machine.{step};
 ghost use Rattle.project_machine.specs.Requests.{Asked, Happened, Taken, TakeSnapshot, View};
 ghost use Rattle.project_machine.specs.History.{after, begin, effect, encoded, last, upto};
@@ -18,10 +18,12 @@ ghost use Rattle.project_machine.specs.ProjectState.{ProjectState, is_curator, i
 use layer_rules::unflawed_layers;
 
 /// The people of a roster are those with which a project can be founded: their names strictly ascend, and there are 1
-/// to 16 of either sort. Only that each name is spelt as one does a list of people not say by itself.
+/// to 16 of either sort. Only that each name is spelt as one does a list of people not say by itself. Put in the order of
+/// their names people are the same: as many pass each test.
 pub fn rosters_can_found()
     ensures founding { (people : List Person) → IsOrdered people → AllByRecursion (λ person. IsSlug person.name) people → IsRoster people }
     ensures roster { (people : List Person) → IsRoster people → IsOrdered people }
+    ensures same { (test : Person → Bool) (people : List Person) → count_by test (in_name_order people) ≡ count_by test people }
 {}
 
 /// What a step of a typed request makes happen goes on with a history, and a history up to any of its places is
@@ -88,8 +90,8 @@ pub fn openings_can_be_repeated()
     ensures again { (entries : List (List ℕ)) (opened : List Happened) → IsOpened entries opened → IsOpened (encoded opened) opened }
 {}
 
-/// Every snapshot that is read is one from which a curator can start: 2 to 16 layers of annotators whose names
-/// ascend, each well-formed and committable for the configuration and the text that come with them.
+/// Every snapshot that is read has 2 to 16 layers of annotators whose names ascend, each well-formed and committable
+/// for the configuration and the text that come with them. That its verdicts are accepted is a law of `project_book`.
 pub fn views_can_be_curated()
     ensures { (log : List Happened) (caller : List ℕ) (number : ℕ) (view : View) → IsLegal log → (step (after log) caller (TakeSnapshot number)).answer ≡ Taken view → IsViewKept view }
 {

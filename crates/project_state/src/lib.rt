@@ -58,4 +58,4 @@ pub use crate::request::Request;
 pub use crate::row::StoredRow;
 pub use crate::state::BookState;
 pub use crate::stored_snapshot::StoredSnapshot;
-pub use crate::tables::{TableAct, apply, table_act, tables_of};
+pub use crate::tables::{TableAct, apply, examples_of_tablings, table_act, tables_of};

@@ -13,7 +13,9 @@
 mod applying;
 mod counting;
 mod tabling;
+mod worked_rows;
 
 pub use crate::tables::applying::apply;
 pub use crate::tables::counting::tables_of;
 pub use crate::tables::tabling::{TableAct, table_act};
+pub use crate::tables::worked_rows::examples_of_tablings;

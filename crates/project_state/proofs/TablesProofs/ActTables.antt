@@ -93,12 +93,14 @@ posts_fit s doc rater spare layer t doc_in rater_in posts =
 pub commit_posts : (s : ProjectState) (doc rater : ℕ) (layer : Arc Annotations Global) (t : TableAct) → doc < length s.documents → rater < length (annotators s) → (row_at s doc rater).ignored ≡ false
     → Posts s doc rater (arc_value layer) t → IsTableAct s (act.Commit doc rater layer) t
 commit_posts s doc rater layer t doc_in rater_in free posts = subst (IsTableAct s (act.Commit doc rater layer)) (sym posts.is) (record {
+  is = sym (ap (λ (b : Bool). if b then table.Nothing else table.Post doc rater (labels_given s doc (arc_value layer))) free);
   stands = λ spare. relabelled s doc rater (s.place + 1) spare (with_commit (arc_value layer)) (Some (labels_given s doc (arc_value layer))) doc_in (commit_labels s (document s doc).text (arc_value layer) (row_at s doc rater) free);
   fits = λ spare room. subst (λ (one : TableAct). CanTable one (standing_of s spare)) posts.is (posts_fit s doc rater spare (arc_value layer) t doc_in rater_in posts);
 })
 
 pub commit_ignored : (s : ProjectState) (doc rater : ℕ) (layer : Arc Annotations Global) → (row_at s doc rater).ignored ≡ true → IsTableAct s (act.Commit doc rater layer) table.Nothing
 commit_ignored s doc rater layer is = record {
+  is = sym (ap (λ (b : Bool). if b then table.Nothing else table.Post doc rater (labels_given s doc (arc_value layer))) is);
   stands = λ spare. unlabelled s doc rater (s.place + 1) spare (with_commit (arc_value layer)) (commit_none s (document s doc).text (arc_value layer) (row_at s doc rater) is);
   fits = λ spare room. tt;
 }
@@ -106,12 +108,14 @@ commit_ignored s doc rater layer is = record {
 pub readmit_posts : (s : ProjectState) (doc rater : ℕ) (t : TableAct) → doc < length s.documents → rater < length (annotators s) → 0 < (row_at s doc rater).revision
     → Posts s doc rater (row_at s doc rater).layer t → IsTableAct s (act.Ignore doc rater false) t
 readmit_posts s doc rater t doc_in rater_in some posts = subst (IsTableAct s (act.Ignore doc rater false)) (sym posts.is) (record {
+  is = sym (ap (λ (b : Bool). if b then table.Post doc rater (labels_given s doc (row_at s doc rater).layer) else table.Nothing) (lt-ltb 0 (row_at s doc rater).revision some));
   stands = λ spare. relabelled s doc rater (s.place + 1) spare (with_ignored false) (Some (labels_given s doc (row_at s doc rater).layer)) doc_in (readmit_labels s (document s doc).text (row_at s doc rater) some);
   fits = λ spare room. subst (λ (one : TableAct). CanTable one (standing_of s spare)) posts.is (posts_fit s doc rater spare (row_at s doc rater).layer t doc_in rater_in posts);
 })
 
 pub readmit_nothing : (s : ProjectState) (doc rater : ℕ) → (row_at s doc rater).revision ≡ 0 → IsTableAct s (act.Ignore doc rater false) table.Nothing
 readmit_nothing s doc rater none = record {
+  is = sym (ap (λ (n : ℕ). if nat_lt 0 n then table.Post doc rater (labels_given s doc (row_at s doc rater).layer) else table.Nothing) none);
   stands = λ spare. unlabelled s doc rater (s.place + 1) spare (with_ignored false) (readmit_none s (document s doc).text (row_at s doc rater) none);
   fits = λ spare room. tt;
 }
@@ -120,6 +124,7 @@ readmit_nothing s doc rater none = record {
 
 pub drops : (s : ProjectState) (doc rater : ℕ) → doc < length s.documents → rater < length (annotators s) → IsTableAct s (act.Ignore doc rater true) (table.Drop doc rater)
 drops s doc rater doc_in rater_in = record {
+  is = refl;
   stands = λ spare. relabelled s doc rater (s.place + 1) spare (with_ignored true) None doc_in (drop_labels s (document s doc).text (row_at s doc rater));
   fits = λ spare room. (let size : length (map (labelled s) s.documents) ≡ length s.documents = length-map s.documents (labelled s) in omega arith, rater_in);
 }
@@ -130,6 +135,7 @@ admits s added tokens room blank counted_is =
     let spare_there = has_spare s added.text room in
     let size : length (map (labelled s) s.documents) ≡ length s.documents = length-map s.documents (labelled s) in
     record {
+      is = ap (λ (n : ℕ). table.Admit n) counted_is;
       stands = λ spare. document_tabled s (s.place + 1) spare tokens added blank counted_is;
       fits = λ spare room_for. (
         room_for,
@@ -139,22 +145,22 @@ admits s added tokens room blank counted_is =
     }
 
 pub holds : (s : ProjectState) (doc rater : ℕ) → IsTableAct s (act.Hold doc rater) table.Nothing
-holds s doc rater = record { stands = λ spare. unlabelled s doc rater (s.place + 1) spare (under_hold (Some (s.place + 1))) refl; fits = λ spare room. tt }
+holds s doc rater = record { is = refl; stands = λ spare. unlabelled s doc rater (s.place + 1) spare (under_hold (Some (s.place + 1))) refl; fits = λ spare room. tt }
 
 pub parks : (s : ProjectState) (doc rater : ℕ) (done undone : List Command) → IsTableAct s (act.Park doc rater done undone) table.Nothing
-parks s doc rater done undone = record { stands = λ spare. unlabelled s doc rater (s.place + 1) spare (with_draft done undone) refl; fits = λ spare room. tt }
+parks s doc rater done undone = record { is = refl; stands = λ spare. unlabelled s doc rater (s.place + 1) spare (with_draft done undone) refl; fits = λ spare room. tt }
 
 pub finishes : (s : ProjectState) (doc rater : ℕ) (finished : Bool) → IsTableAct s (act.Finish doc rater finished) table.Nothing
-finishes s doc rater finished = record { stands = λ spare. unlabelled s doc rater (s.place + 1) spare (with_finished finished) refl; fits = λ spare room. tt }
+finishes s doc rater finished = record { is = refl; stands = λ spare. unlabelled s doc rater (s.place + 1) spare (with_finished finished) refl; fits = λ spare room. tt }
 
 pub snaps : (s : ProjectState) (taken : Snapshot) → IsTableAct s (act.Snap taken) table.Nothing
-snaps s taken = record { stands = λ spare. refl; fits = λ spare room. tt }
+snaps s taken = record { is = refl; stands = λ spare. refl; fits = λ spare room. tt }
 
 pub decides : (s : ProjectState) (number : ℕ) (decisions : List (ItemId × Verdict)) → IsTableAct s (act.Decide number decisions) table.Nothing
-decides s number decisions = record { stands = λ spare. refl; fits = λ spare room. tt }
+decides s number decisions = record { is = refl; stands = λ spare. refl; fits = λ spare room. tt }
 
 pub frees : (s : ProjectState) → IsTableAct s act.FreeAll table.Nothing
-frees s = record { stands = λ spare. freed_tabled s (s.place + 1) spare; fits = λ spare room. tt }
+frees s = record { is = refl; stands = λ spare. freed_tabled s (s.place + 1) spare; fits = λ spare room. tt }
 
 -- ---- what is read
 

@@ -11,6 +11,7 @@ use Rattle.project_machine.specs.ProjectState.{Document, ProjectState, Snapshot,
 use Rattle.project_machine.specs.Requests.{Happened, CheckedOut, TakenOver, LayerCommitted, LayerParked, LayerFinished, LayerReopened, LayerIgnored, LayerReadmitted, SnapshotTaken, TextAdded, ItemDecided, ItemUndecided}
 use Rattle.project_machine.specs.History.{effect, new_snapshot}
 use Rattle.project_state.specs.Acting.{CanAct, performed}
+use Rattle.project_state.specs.Tables.Tabling.{tabling_by, tabling_of}
 use Rattle.project_state.specs.declared.act.Act.TheVariants as act
 use Rattle.project_steps.proofs.StepsProofs.OutcomeLemmas.{number_within, rater_within}
 
@@ -67,3 +68,18 @@ pub can_commit : (s : ProjectState) (name who : List ℕ) (doc rater revision : 
 can_commit s name who doc rater revision layer d r e low =
     let same : (row_at s doc rater).revision ≡ revision = ap (λ (n : ℕ). (row_at s n rater).revision) d ∙ (ap (λ (n : ℕ). (row_at s (number_of s name) n).revision) r ∙ sym e) in
     subst (λ (n : ℕ). n < 2 ^ 64 - 1) (sym same) low
+
+-- ---- what the act of each change does to the tables is what the change does to them
+
+pub adds_tabled : (s : ProjectState) (by name text : List ℕ) (added : Document) → added ≡ new_document s name text → tabling_by s (act.AddDocument added) ≡ tabling_of s (TextAdded by name text)
+adds_tabled s by name text added is = ap (λ d. tabling_by s (act.AddDocument d)) is
+
+pub commits_tabled : (s : ProjectState) (by : List ℕ) (doc rater hold : ℕ) (shared : Annotations) (z : Arc Annotations Global) → rater ≡ rater_of s by → arc_value z ≡ shared
+    → tabling_by s (act.Commit doc rater z) ≡ tabling_of s (LayerCommitted by doc hold shared)
+commits_tabled s by doc rater hold shared z e is = ap (λ r. tabling_by s (act.Commit doc r z)) e ∙ ap (λ layer. tabling_of s (LayerCommitted by doc hold layer)) is
+
+pub ignores_tabled : (s : ProjectState) (by : List ℕ) (doc rater : ℕ) (who : List ℕ) → rater ≡ rater_of s who → tabling_by s (act.Ignore doc rater true) ≡ tabling_of s (LayerIgnored by doc who)
+ignores_tabled s by doc rater who e = ap (λ r. tabling_by s (act.Ignore doc r true)) e
+
+pub readmits_tabled : (s : ProjectState) (by : List ℕ) (doc rater : ℕ) (who : List ℕ) → rater ≡ rater_of s who → tabling_by s (act.Ignore doc rater false) ≡ tabling_of s (LayerReadmitted by doc who)
+readmits_tabled s by doc rater who e = ap (λ r. tabling_by s (act.Ignore doc r false)) e

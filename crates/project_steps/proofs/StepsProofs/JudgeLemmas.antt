@@ -15,6 +15,7 @@ use Rattle.project_machine.specs.History.{effect}
 use Rattle.project_state.specs.declared.act.Act.{Act}
 use Rattle.project_state.specs.Acting.{CanAct, FitsRows, performed}
 use Rattle.project_state.specs.Values.{answer_of, happened_of}
+use Rattle.project_state.specs.Tables.Tabling.{tabling_by, tabling_of}
 use Rattle.project_steps.specs.declared.steps.judging.Judged.{Judged}
 use Rattle.project_steps.specs.declared.steps.judging.Kept.{Kept}
 use Rattle.project_steps.specs.declared.steps.accepted.Accepted.{Accepted}
@@ -112,6 +113,7 @@ judged_made s caller asked accepted made judged kept free is same reply_is kept_
       entry = entry_is ∙ ap (λ (h : Happened). entry_bytes (entry_of s h)) (sym happens);
       short = short;
       acts = ap (λ (done : Act). performed done s) act_is ∙ (made_is.acts ∙ ap (λ (h : Happened). effect (s.place + 1) h s) (sym happens));
+      tables = ap (λ (done : Act). tabling_by s done) act_is ∙ (made_is.tables ∙ ap (λ (h : Happened). tabling_of s h) (sym happens));
       can = subst (λ (done : Act). CanAct done s) (sym act_is) made_is.can;
       fits = subst (λ (done : Act). FitsRows done s) (sym act_is) made_is.fits;
     } in

@@ -37,7 +37,7 @@ decide_accepts s caller number holder id verdict shot item decisions e same is =
     record {
       answer = ap (λ (ds : List (ItemId × Verdict)). Decided (length ds)) (of_it ∙ ap (λ (i : ItemId). with_verdict (snapshot s number).verdicts i verdict) here);
       change = ap (λ (i : ItemId). Some (ItemDecided caller number i.holder i.id verdict)) here;
-      made = record { acts = decides s caller number item verdict decisions of_it; can = tt; fits = tt };
+      made = record { acts = decides s caller number item verdict decisions of_it; tables = refl; can = tt; fits = tt };
     }
 
 undecide_accepts : (s : ProjectState) (caller : List ℕ) (number : ℕ) (holder : List ℕ) (id : AnnId) (shot : Snapshot) (item : ItemId) (decisions : List (ItemId × Verdict)) → Some shot ≡ snapshot_of s number → item ≡ item_in shot holder id
@@ -49,7 +49,7 @@ undecide_accepts s caller number holder id shot item decisions e same is =
     record {
       answer = ap (λ (ds : List (ItemId × Verdict)). Decided (length ds)) (of_it ∙ ap (λ (i : ItemId). without_verdict (snapshot s number).verdicts i) here);
       change = ap (λ (i : ItemId). Some (ItemUndecided caller number i.holder i.id)) here;
-      made = record { acts = undecides s caller number item decisions of_it; can = tt; fits = tt };
+      made = record { acts = undecides s caller number item decisions of_it; tables = refl; can = tt; fits = tt };
     }
 
 pub decide_done : (s : ProjectState) (caller : List ℕ) (number : ℕ) (holder : List ℕ) (id : AnnId) (verdict : Verdict) (shot : Snapshot) (place : ℕ) (decisions : List (ItemId × Verdict)) (accepted : Accepted) → Some shot ≡ snapshot_of s number

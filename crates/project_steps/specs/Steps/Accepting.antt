@@ -7,6 +7,7 @@ use Rattle.project_machine.specs.Machine.{change, first_of, reply, tests}
 use Rattle.project_machine.specs.History.{effect}
 use Rattle.project_state.specs.Acting.{CanAct, FitsRows, performed}
 use Rattle.project_state.specs.Values.{answer_of, happened_of}
+use Rattle.project_state.specs.Tables.Tabling.{tabling_by, tabling_of}
 use Rattle.project_steps.specs.declared.steps.accepted.Made.{Made}
 use Rattle.project_steps.specs.declared.steps.accepted.Accepted.{Accepted}
 use Rattle.project_steps.specs.declared.steps.accepted.Outcome.{Outcome}
@@ -16,9 +17,10 @@ use Rattle.project_steps.specs.declared.steps.accepted.Outcome.TheVariants as ou
 abbrev pub made_happen : Made → Happened
 made_happen made = happened_of made.change
 
--- a change that a request makes comes with the act that does it at the next place, which can be done
+-- a change that a request makes comes with the act that does it at the next place, which does the same to the tables and can be done
 pub record IsMade (s : ProjectState) (made : Made) : Type 0 where
   pub acts : performed made.act s ≡ effect (s.place + 1) (made_happen made) s
+  pub tables : tabling_by s made.act ≡ tabling_of s (made_happen made)
   pub can : CanAct made.act s
   pub fits : FitsRows made.act s
 

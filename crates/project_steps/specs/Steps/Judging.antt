@@ -11,6 +11,7 @@ use Rattle.project_machine.specs.History.{effect}
 use Rattle.project_state.specs.Acting.{CanAct, FitsRows, performed}
 use Rattle.project_state.specs.Values.{answer_of, happened_of}
 use Rattle.project_state.specs.Entries.Writing.{CanBeEntered}
+use Rattle.project_state.specs.Tables.Tabling.{tabling_by, tabling_of}
 use Rattle.project_steps.specs.declared.steps.accepted.Accepted.{Accepted}
 use Rattle.project_steps.specs.Steps.Accepting.{Accepts, made_happen}
 use Rattle.project_steps.specs.declared.steps.judging.Kept.{Kept}
@@ -34,11 +35,12 @@ snapshot_decided s decided = option_map_or (snapshot s) decided no_snapshot
 abbrev pub kept_happens : Kept → Happened
 kept_happens kept = happened_of kept.change
 
--- a change that is to be kept comes with its entry, which is not longer than a journal takes, and with the act that does it at the next place, which can be done
+-- a change that is to be kept comes with its entry, which is not longer than a journal takes, and with the act that does it at the next place, which does the same to the tables and can be done
 pub record IsKeptChange (s : ProjectState) (kept : Kept) : Type 0 where
   pub entry : kept.entry ≡ entry_bytes (entry_of s (kept_happens kept))
   pub short : length kept.entry ≤ 16777216
   pub acts : performed kept.act s ≡ effect (s.place + 1) (kept_happens kept) s
+  pub tables : tabling_by s kept.act ≡ tabling_of s (kept_happens kept)
   pub can : CanAct kept.act s
   pub fits : FitsRows kept.act s
 

@@ -5,7 +5,7 @@ use Rattle.project_machine.specs.ProjectState.{Document, document}
 use Rattle.project_machine.specs.Tables.{labelled}
 use Rattle.project_state.specs.Tables.Counting.{standing_upto}
 use Rattle.project_state.proofs.TablesProofs.ActTables.{ok_then}
-use Rattle.project_state.proofs.TablesProofs.CountingLemmas.{comes_blank, document_more, front_of, next_fits, with_document}
+use Rattle.project_state.proofs.TablesProofs.CountingLemmas.{comes_blank, document_more, front_of, next_fits}
 use Rattle.project_state.proofs.tables.counting.add_document.Goals as goal
 
 pub admit-number-requires-clause-short : goal.admit-number-requires-clause-short

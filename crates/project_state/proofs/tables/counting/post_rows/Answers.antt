@@ -4,7 +4,7 @@ use Rattle.project_machine.specs.ProjectState.{blank_row}
 use Rattle.project_machine.specs.Tables.{labels_in}
 use Rattle.project_state.specs.Tables.Counting.{labelled_upto, posted_as}
 use Rattle.project_state.proofs.TablesProofs.ActTables.{got_at, some_row}
-use Rattle.project_state.proofs.TablesProofs.CountingLemmas.{document_all, row_more, rows_none, with_document}
+use Rattle.project_state.proofs.TablesProofs.CountingLemmas.{document_all, row_more, with_document}
 use Rattle.project_state.proofs.tables.counting.post_rows.Goals as goal
 
 pub loop-rater-preserved : goal.loop-rater-preserved
