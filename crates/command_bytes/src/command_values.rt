@@ -1,6 +1,6 @@
 //! Whether commands and layers hold only what a journal can tell again. Names, texts and layers always do; a list of a
 //! command may be too long for one.
-ghost use Rattle.std.specs.Prelude.{◌≡◌, true, IsUtf8};
+ghost use Rattle.std.specs.Prelude.{◌≡◌, false, true, IsUtf8};
 ghost use Rattle.std.specs.List.{AllByRecursion};
 ghost use Rattle.std.specs.FinMap as finite;
 ghost use Rattle.ann_writer.specs.Writable.{HasTexts, NormalTexts, NoteTexts};
@@ -103,7 +103,8 @@ fn args_are(args: &[NamedArg])
 
 /// Whether there are few enough fragments.
 fn are_few_frags(frags: &FragList) -> bool
-    ensures { result ≡ true → AreFrags frags.now }
+    ensures typed { result ≡ true → AreFrags frags.now }
+    ensures other { result ≡ false → AreFrags frags.now → ⊥ }
 {
     frags_are(frags.items());
     frags.items().len() <= MOST_ITEMS
@@ -111,7 +112,8 @@ fn are_few_frags(frags: &FragList) -> bool
 
 /// Whether there are few enough arguments.
 fn are_few_args(args: &NamedArgs) -> bool
-    ensures { result ≡ true → AreArgs args.now }
+    ensures typed { result ≡ true → AreArgs args.now }
+    ensures other { result ≡ false → AreArgs args.now → ⊥ }
 {
     args_are(args.items());
     args.items().len() <= MOST_ITEMS
@@ -119,7 +121,8 @@ fn are_few_args(args: &NamedArgs) -> bool
 
 /// Whether a new span or event, or another place of a span, can be told.
 fn marks_are(kind: &Name, frags: &FragList) -> bool
-    ensures { result ≡ true → IsName kind.now × AreFrags frags.now }
+    ensures typed { result ≡ true → IsName kind.now × AreFrags frags.now }
+    ensures other { result ≡ false → IsName kind.now × AreFrags frags.now → ⊥ }
 {
     name_is(kind);
     are_few_frags(frags)
@@ -127,7 +130,8 @@ fn marks_are(kind: &Name, frags: &FragList) -> bool
 
 /// Whether a new event can be told.
 fn event_is(kind: &Name, args: &NamedArgs) -> bool
-    ensures { result ≡ true → IsName kind.now × AreArgs args.now }
+    ensures typed { result ≡ true → IsName kind.now × AreArgs args.now }
+    ensures other { result ≡ false → IsName kind.now × AreArgs args.now → ⊥ }
 {
     name_is(kind);
     are_few_args(args)
@@ -135,7 +139,8 @@ fn event_is(kind: &Name, args: &NamedArgs) -> bool
 
 /// Whether a command can be told. Cost: its length.
 fn is_typed_command(command: &Command) -> bool
-    ensures { result ≡ true → IsCommand command.now }
+    ensures typed { result ≡ true → IsCommand command.now }
+    ensures other { result ≡ false → IsCommand command.now → ⊥ }
 {
     match command {
         Command::AddSpan { kind, frags } => marks_are(kind, frags),
@@ -200,7 +205,8 @@ fn is_typed_command(command: &Command) -> bool
 
 /// Whether commands can be told. Cost: their length.
 fn are_typed(commands: &[Command]) -> bool
-    ensures { result ≡ true → AreCommands commands.now }
+    ensures typed { result ≡ true → AreCommands commands.now }
+    ensures other { result ≡ false → AreCommands commands.now → ⊥ }
 {
     for command in commands {
         if !is_typed_command(command) {
@@ -212,7 +218,8 @@ fn are_typed(commands: &[Command]) -> bool
 
 /// Whether both scripts can be told.
 pub fn scripts_are_typed(done: &Script, undone: &Script) -> bool
-    ensures { result ≡ true → AreCommands done.now × AreCommands undone.now }
+    ensures typed { result ≡ true → AreCommands done.now × AreCommands undone.now }
+    ensures other { result ≡ false → AreCommands done.now × AreCommands undone.now → ⊥ }
 {
     are_typed(done.items()) && are_typed(undone.items())
 }

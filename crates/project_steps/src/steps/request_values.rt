@@ -1,5 +1,5 @@
 //! Whether a request holds only what a journal can tell again: it does, but for commands with a list that is too long.
-ghost use Rattle.std.specs.Prelude.{◌≡◌, true};
+ghost use Rattle.std.specs.Prelude.{◌≡◌, false, true};
 ghost use Rattle.entry_bytes.specs.Fields.{IsSlug};
 ghost use Rattle.project_machine.specs.RequestValues.{IsAsked, IsDocText};
 ghost use Rattle.project_state.specs.Values.{asked_of};
@@ -27,7 +27,8 @@ fn doc_is(doc: &Doc)
 /// Whether a request can be told by a journal: it can, but for a list of more than 4,294,967,295 items in a command.
 /// Cost: the commands of a park, the notes and normalizations of a commit.
 pub fn is_typed(request: &Request) -> bool
-    ensures { result ≡ true → IsAsked (asked_of request.now) }
+    ensures typed { result ≡ true → IsAsked (asked_of request.now) }
+    ensures other { result ≡ false → IsAsked (asked_of request.now) → ⊥ }
 {
     match request {
         Request::ReadConf => true,

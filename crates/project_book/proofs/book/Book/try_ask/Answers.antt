@@ -34,6 +34,6 @@ returns-in-Err-keep g c =
 
 pub keep-requires : goal.keep-requires
 keep-requires g c = record {
-  follows = follows_judged c.args.self.now.log c.args.caller.now (asked_of c.args.request) c.in-Ok.judged c.in-Some.kept c.keeps.ensures.legal (c.is_typed.ensures c.if-not-is_typed.false)
+  follows = follows_judged c.args.self.now.log c.args.caller.now (asked_of c.args.request) c.in-Ok.judged c.in-Some.kept c.keeps.ensures.legal (c.is_typed.ensures.typed c.if-not-is_typed.false)
       (judged_at _ c.args.self.now c.self.inside.state.state c.self.inside.groups c.self.inside.tables _ _ c.args.caller.now (asked_of c.args.request) c.in-Ok.judged c.self.view_is c.self.invariant c.in-Ok.ensures) c.in-Some.is;
 }
