@@ -11,6 +11,7 @@ ghost use Rattle.project_book.specs.Founding.{HasFailed, IsBeginning, IsComplete
 ghost use Rattle.project_book.specs.Keeping.{AreTables, TellsKeeper};
 
 use crate::book::Book;
+use crate::bounds::LONGEST_CONF;
 use crate::found_fault::FoundFault;
 use annotation_conf::write_conf;
 use conf_model::Conf;
@@ -25,9 +26,6 @@ use project_state::{
 };
 use std::alloc::Global;
 use std::sync::Arc;
-
-/// The greatest number of bytes of the text of a configuration.
-const LONGEST_CONF: usize = 4_194_304;
 
 /// The level that stands for none.
 const NO_LEVEL: u8 = 255;
@@ -175,6 +173,7 @@ impl<K: Keeper> Book<K> {
         ensures refused { IfErr result (λ back. IsFoundRefusal conf 255 roster back.1) }
         ensures given_back { IfErr result (λ back. K.kept back.0 ≡ K.kept keeper) }
         ensures doubt { IfErr result (λ back. (K.doubt back.0 ≡ None) ⊎ (K.doubt back.0 ≡ Some (founding_bytes conf 255 roster))) }
+        ensures doubted { IfErr result (λ back. (K.doubt back.0 ≡ None) ⊎ (back.1 ≡ FoundFault.Keeper)) }
         ensures any_moment { K.kept keeper ≡ Some [] → LeavesOnly K.moment K.left_since keeper (keeper_behind result) (IsKeptOrOneMore [] None (founding_bytes conf 255 roster)) }
         ensures keeper { TellsKeeper K.faults K.faultless keeper (keeper_behind result) (HasFailed result) }
     {
@@ -184,7 +183,7 @@ impl<K: Keeper> Book<K> {
     /// Founds a project with a configuration, its people, and the level of the tree of types at which types are
     /// compared: 0 to 254, or 255 for none. The founding is kept first. A refusal gives the keeper back with the
     /// entries that it had. Cost, not measured: the text of the configuration twice, the bytes of the entry, and the counts
-    /// of two labels for each two annotators.
+    /// of two labels for each two annotators. Behind `Keeper`, and there alone, a stop may still leave the founding.
     pub fn found_at(
         alloc: Global,
         keeper: K,
@@ -200,7 +199,9 @@ impl<K: Keeper> Book<K> {
         ensures fits { OnOk result (is_too_long conf level roster ≡ false) }
         ensures refused { IfErr result (λ back. IsFoundRefusal conf level roster back.1) }
         ensures given_back { IfErr result (λ back. K.kept back.0 ≡ K.kept keeper) }
+        // In doubt is at most the founding, and behind `Keeper` alone.
         ensures doubt { IfErr result (λ back. (K.doubt back.0 ≡ None) ⊎ (K.doubt back.0 ≡ Some (founding_bytes conf level roster))) }
+        ensures doubted { IfErr result (λ back. (K.doubt back.0 ≡ None) ⊎ (back.1 ≡ FoundFault.Keeper)) }
         // What a stop at any moment of the call leaves: nothing, or the founding.
         ensures any_moment { K.kept keeper ≡ Some [] → LeavesOnly K.moment K.left_since keeper (keeper_behind result) (IsKeptOrOneMore [] None (founding_bytes conf level roster)) }
         // `Keeper` is answered only where the keeper counted a fault.

@@ -24,6 +24,7 @@
 mod alone;
 mod asking;
 mod book;
+mod bounds;
 mod found_fault;
 mod founding;
 mod keeping;

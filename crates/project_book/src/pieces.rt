@@ -7,14 +7,12 @@ ghost use Rattle.project_machine.specs.Opening.{IsOpened, IsReplay, restored};
 ghost use Rattle.project_machine.specs.ProjectState.{is_some_out};
 
 use crate::book::Book;
+use crate::bounds::GREATEST_PLACE;
 use crate::laws::verdicts_are_accepted;
 use crate::state_pieces::{pieces, states_are_told_apart};
 use mark_base::{Bytes, Memory};
 use project_journal::Keeper;
 use project_state::states_can_be_restored;
-
-/// The greatest place at which a project can begin.
-const GREATEST_PLACE: u64 = 4_611_686_018_427_387_904;
 
 impl<K: Keeper> Book<K> {
     /// Whether some layer is out. Cost: all rows.

@@ -20,7 +20,8 @@ use Rattle.project_book.specs.declared.restoring.known.Known.{Known}
 use Rattle.project_book.specs.declared.restoring.so_far.Before.TheVariants as before
 use Rattle.project_book.specs.declared.restoring.so_far.SoFar.{SoFar}
 use Rattle.project_book.specs.Replaying.{IsReading}
-use Rattle.project_book.specs.Restoring.Following.{BeginsState, Follows, GoOn, HasHead, IsEndless, IsFoundedWith, IsKnown, IsKnownBy, IsKnownOf, IsLook, IsLookedAt, IsNoneBehind, IsNoneUpTo, Knows, StartsRun, behind, fits, opening}
+use Rattle.project_book.specs.Restoring.Following.{BeginsState, Follows, GoOn, HasHead, IsFoundedWith, IsKnown, IsKnownBy, IsKnownOf, IsLook, IsLookedAt, IsNoneBehind, IsNoneUpTo, Knows, StartsRun, behind, fits, opening}
+use Rattle.project_book.specs.Restoring.Restoring.{IsEndless}
 use Rattle.project_book.proofs.RestoringProofs.FitLemmas.{follows_fits}
 use Rattle.project_book.proofs.RestoringProofs.FollowingLemmas.{HasEnd, others, others_go_on, pieces_are_others, pieces_end}
 use Rattle.project_book.proofs.StatePiecesProofs.BeginLemmas.{Begins, begins, with_founding, with_state}

@@ -23,7 +23,8 @@ use Rattle.project_machine.specs.People.{comes_before}
 use Rattle.project_machine.specs.ProjectState.{Row, Document, Snapshot, ProjectState, annotators, document, is_annotator}
 use Rattle.project_book.specs.declared.restoring.held_order.HeldSoFar.{HeldSoFar}
 use Rattle.project_book.specs.declared.restoring.known.Known.{Known}
-use Rattle.project_book.specs.Restoring.Following.{IsEndless, IsKnownBy, IsNoneUpTo, Knows, StartsRun}
+use Rattle.project_book.specs.Restoring.Following.{IsKnownBy, IsNoneUpTo, Knows, StartsRun}
+use Rattle.project_book.specs.Restoring.Restoring.{IsEndless}
 use Rattle.project_book.specs.Restoring.HeldOrder.{HoldersFit, held_behind, is_behind, names_behind, none_held}
 use Rattle.project_book.specs.Restoring.Walking.{IsStep}
 use Rattle.project_book.proofs.RestoringProofs.FaultLemmas.{PiecesAre}

@@ -29,7 +29,8 @@ use Rattle.project_state.specs.Entries.Reading.{ReadsLayer}
 use Rattle.project_book.specs.declared.restoring.judged.ShotAt.{ShotAt}
 use Rattle.project_book.specs.declared.restoring.known.Known.{Known}
 use Rattle.project_book.specs.Replaying.{IsReading}
-use Rattle.project_book.specs.Restoring.Following.{BeginsState, IsEndless, IsKnownBy, IsNoneUpTo, IsTextIn, Knows, StartsRun}
+use Rattle.project_book.specs.Restoring.Following.{BeginsState, IsKnownBy, IsNoneUpTo, IsTextIn, Knows, StartsRun}
+use Rattle.project_book.specs.Restoring.Restoring.{IsEndless}
 use Rattle.project_book.specs.Restoring.Judged.{AreBytesRefused, AreFirstHeld, AreRefused, HasShot, HasShotOn, IsHeldBy, IsHeldIn, IsPieceRefused, IsRefusedAt, IsShotIn, IsShotOfNone, IsShotOfNoneOn, IsShotText}
 use Rattle.project_book.proofs.RestoringProofs.FaultLemmas.{IsCut, IsOfState, PiecesAre, cut_at, here_is, none_up_to, of_begun}
 use Rattle.project_book.proofs.RestoringProofs.FollowingLemmas.{others, pieces_are_others, pieces_end}

@@ -23,7 +23,8 @@ use Rattle.project_machine.specs.ProjectState.{Row, Document, Snapshot, ProjectS
 use Rattle.project_state.specs.Entries.Reading.{ReadsScripts}
 use Rattle.project_book.specs.declared.restoring.known.Known.{Known}
 use Rattle.project_book.specs.declared.restoring.parked.RowAhead.{RowAhead}
-use Rattle.project_book.specs.Restoring.Following.{BeginsState, IsEndless, IsKnownBy, IsNoneUpTo, IsTextIn, Knows, StartsRun}
+use Rattle.project_book.specs.Restoring.Following.{BeginsState, IsKnownBy, IsNoneUpTo, IsTextIn, Knows, StartsRun}
+use Rattle.project_book.specs.Restoring.Restoring.{IsEndless}
 use Rattle.project_book.specs.Restoring.Parked.{AreParked, HasEntryAt, HasRowAt, IsBaseAt, IsNoneAt, IsNoneWith, IsParked, IsParkedOn, IsRowAhead, ReadsRow, counted_row, row_front}
 use Rattle.project_book.proofs.RestoringProofs.DoubledLemmas.{first_told}
 use Rattle.project_book.proofs.RestoringProofs.FaultLemmas.{IsCut, IsOfState, PiecesAre, all_at, cut_at, none_up_to, of_begun}

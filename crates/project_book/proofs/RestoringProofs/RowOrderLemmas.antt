@@ -18,7 +18,8 @@ use Rattle.project_machine.specs.Opening.{IsBegun}
 use Rattle.project_machine.specs.ProjectState.{Row, Document, Snapshot, ProjectState, annotators, document}
 use Rattle.project_machine.specs.People.{comes_before}
 use Rattle.project_book.specs.declared.restoring.row_order.RowAt.{RowAt}
-use Rattle.project_book.specs.Restoring.Following.{HasRow, IsEndless, IsNoneUpTo, IsNotBehind, RowBefore, StandsBefore, StartsRun, row_of}
+use Rattle.project_book.specs.Restoring.Following.{HasRow, IsNoneUpTo, IsNotBehind, RowBefore, StandsBefore, StartsRun, row_of}
+use Rattle.project_book.specs.Restoring.Restoring.{IsEndless}
 use Rattle.project_book.proofs.RestoringProofs.FaultLemmas.{IsCut, IsOfState, PiecesAre, all_at, cut_at, here_is, none_up_to, of_begun, piece_is}
 use Rattle.project_book.proofs.RestoringProofs.FollowingLemmas.{others, pieces_are_others, pieces_end}
 use Rattle.project_book.proofs.StatePiecesProofs.PieceEntries.{annotators_sorted}

@@ -20,7 +20,8 @@ use Rattle.project_machine.specs.ProjectState.{Row, Document, Snapshot, ProjectS
 use Rattle.project_machine.specs.RequestValues.{IsDocText}
 use Rattle.project_state.proofs.EntriesProofs.SizeLemmas.{text_size}
 use Rattle.project_book.specs.declared.restoring.sizes.SizeSoFar.{SizeSoFar}
-use Rattle.project_book.specs.Restoring.Following.{IsEndless, IsNoneUpTo, StartsRun}
+use Rattle.project_book.specs.Restoring.Following.{IsNoneUpTo, StartsRun}
+use Rattle.project_book.specs.Restoring.Restoring.{IsEndless}
 use Rattle.project_book.specs.Restoring.Sizes.{SizeFits, all_room, size_behind}
 use Rattle.project_book.specs.Restoring.Walking.{IsStep}
 use Rattle.project_book.proofs.RestoringProofs.FaultLemmas.{PiecesAre}

@@ -11,7 +11,8 @@ use Rattle.project_machine.specs.Entries.{first_piece, pieces_of}
 use Rattle.project_machine.specs.Legal.{IsSound}
 use Rattle.project_machine.specs.Opening.{IsBegun}
 use Rattle.project_machine.specs.ProjectState.{ProjectState}
-use Rattle.project_book.specs.Restoring.Following.{IsEndless, IsNoneUpTo, StartsRun}
+use Rattle.project_book.specs.Restoring.Following.{IsNoneUpTo, StartsRun}
+use Rattle.project_book.specs.Restoring.Restoring.{IsEndless}
 use Rattle.project_book.specs.Restoring.Walking.{IsStep, IsStepOf}
 use Rattle.project_book.proofs.RestoringProofs.FaultLemmas.{IsCut, IsOfState, PiecesAre, all_at, cut_at, first_pieces, here_is, none_up_to, of_begun}
 use Rattle.project_book.proofs.RestoringProofs.FollowingLemmas.{others, pieces_end}

@@ -195,10 +195,6 @@ pub record Knows (known : Known) (s : ProjectState) : Type 0 where
 abbrev pub IsLookedAt : List (List ℕ) → ℕ → Known → SoFar → Type 0
 IsLookedAt entries place known so = (s : ProjectState) (rest : List Entry) → BeginsState entries place s rest → Knows known s × GoOn s so rest
 
--- no such entry is the last piece of a run
-abbrev pub IsEndless : List (List ℕ) → ℕ → Type 0
-IsEndless entries place = (i : ℕ) → i < place → get_or entries i [] ≡ 24 ∷ [] → ⊥
-
 -- the first piece of a state has these fields
 pub record HasHead (s : ProjectState) (place documents snapshots : ℕ) (conf : List ℕ) (people : List Person) : Type 0 where
   pub place_is : s.place ≡ place

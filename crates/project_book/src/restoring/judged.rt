@@ -10,6 +10,7 @@ ghost use Rattle.unanimous_merge.specs.Rows.{AreCoherent};
 ghost use Rattle.project_book.specs.Restoring.Following.{IsKnownBy, IsNoneUpTo, StartsRun};
 ghost use Rattle.project_book.specs.Restoring.Judged.{AreBytesRefused, AreFirstHeld, AreRefused, IsHeldBy, IsHeldIn, IsPieceRefused, IsRefusedAt, IsShotIn, IsShotOfNone, IsShotOfNoneOn, IsShotText};
 
+use crate::bounds::LONGEST_ENTRY;
 use crate::restoring::ascending::items_ascend;
 use crate::restoring::known::{Known, known_by};
 use crate::restoring::looking::is_end;
@@ -28,9 +29,6 @@ use mark_base::{Bytes, Memory, Slug};
 use std::alloc::Global;
 use std::sync::Arc;
 use unanimous_merge::ItemId;
-
-/// The greatest number of bytes of an entry that a journal takes.
-const LONGEST: usize = 16_777_216;
 
 /// A snapshot of a run: the place of its piece, the number of its document, and how many layers it holds. They stand
 /// behind the piece, and the verdicts behind them.
@@ -189,7 +187,7 @@ fn bytes_are_refused(
     requires { AreCoherent snapshot.now }
     ensures { IfOk result (λ are. are ≡ true → AreBytesRefused conf.now (length doc.now) snapshot.now bytes.now) }
 {
-    if bytes.len() > LONGEST {
+    if bytes.len() > LONGEST_ENTRY {
         return Ok(false);
     }
     match verdicts_of(alloc, bytes)? {

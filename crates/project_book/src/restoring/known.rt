@@ -3,6 +3,7 @@ ghost use Rattle.std.specs.Prelude.{◌≡◌, ◌⊎◌, ◌<◌, IfOk, length,
 ghost use Rattle.project_book.specs.Replaying.{IsReading};
 ghost use Rattle.project_book.specs.Restoring.Following.{IsFoundedWith, IsKnown, IsKnownBy, IsKnownOf};
 
+use crate::bounds::GREATEST_PLACE;
 use crate::state_pieces::annotator_names;
 use ann_writer::written_layers_are_utf8;
 use annotation_conf::sound_configurations_are_read_back;
@@ -12,9 +13,6 @@ use mark_base::{Bytes, Memory, Slug, Text};
 use project_state::{Founding, founding_of};
 use std::alloc::Global;
 use std::sync::Arc;
-
-/// The greatest place at which a project can begin.
-const GREATEST_PLACE: u64 = 4_611_686_018_427_387_904;
 
 /// The greatest number of documents of a project.
 const MOST_DOCUMENTS: u32 = 4_096;

@@ -2,6 +2,7 @@
 ghost use Rattle.std.specs.Prelude.{IfOk, IfSome};
 ghost use Rattle.layer_model.specs.Coherent.{IsCoherent};
 
+use crate::bounds::LONGEST_ENTRY;
 use crate::restoring::said_verdicts::verdicts_of;
 use ann_reader::{AnnFault, read_ann};
 use char_documents::Doc;
@@ -15,16 +16,13 @@ use mark_base::{Memory, Slug, Text};
 use std::alloc::Global;
 use unanimous_merge::ItemId;
 
-/// The greatest number of bytes of .ann lines.
-const LONGEST: usize = 16_777_216;
-
 /// The layer of .ann lines, where they are those of one.
 fn layer_of(alloc: Global, lines: &Text, doc: &Doc, conf: &Conf) -> Result<Option<Layer>, Memory>
     ensures { IfOk result (λ found. IfSome found IsCoherent) }
 {
     well_formed_layers_cohere();
     let bytes = lines.text().as_bytes();
-    if bytes.len() > LONGEST {
+    if bytes.len() > LONGEST_ENTRY {
         return Ok(None);
     }
     match read_ann(alloc, bytes, doc, conf) {

@@ -8,6 +8,7 @@ ghost use Rattle.layer_undo.specs.Replays.{first_refusal};
 ghost use Rattle.command_bytes.specs.CommandBytes.{scripts_bytes};
 ghost use Rattle.project_book.specs.Restoring.Kept.{HasObeyed};
 
+use crate::bounds::LONGEST_ENTRY;
 use ann_writer::ann_bytes;
 use char_documents::Doc;
 use command_bytes::{accepted_scripts_can_be_written, write_scripts};
@@ -18,9 +19,6 @@ use layer_undo::{DeskStart, Script, check_scripts};
 use mark_base::Memory;
 use std::alloc::Global;
 use std::sync::Arc;
-
-/// The greatest number of bytes of an entry that a journal takes.
-const LONGEST: usize = 16_777_216;
 
 /// Whether nothing is marked in a layer.
 #[tactic(auto, using(crate::proofs::RestoringProofs::LayerLemmas::nothing_marked))]
@@ -95,7 +93,7 @@ pub(crate) fn lines_fit(
 {
     let lines = ann_bytes(alloc, layer, doc, conf)?;
     let size = lines.items().len();
-    Ok(size <= LONGEST && beside <= LONGEST - size)
+    Ok(size <= LONGEST_ENTRY && beside <= LONGEST_ENTRY - size)
 }
 
 /// Whether two scripts that are not refused from a layer fit an entry.
@@ -112,5 +110,5 @@ pub(crate) fn draft_fits(
 {
     accepted_scripts_can_be_written();
     let commands = write_scripts(alloc, done, undone, doc, conf)?;
-    Ok(commands.items().len() < LONGEST)
+    Ok(commands.items().len() < LONGEST_ENTRY)
 }

@@ -30,6 +30,7 @@ const END_TAG: u8 = 24;
 
 /// Whether bytes are those of the last piece of a run.
 pub(crate) fn is_end(bytes: &[u8]) -> bool
+    ensures end { result ≡ true → bytes.now ≡ 24 ∷ [] }
     ensures other { result ≡ false → bytes.now ≢ 24 ∷ [] }
 {
     are_same(bytes, &[END_TAG])

@@ -9,6 +9,7 @@ ghost use Rattle.project_state.specs.Entries.Reading.{ReadsScripts};
 ghost use Rattle.project_book.specs.Restoring.Following.{IsKnownBy, IsNoneUpTo, StartsRun};
 ghost use Rattle.project_book.specs.Restoring.Parked.{HasEntryAt, HasLayerAt, HasRowAt, IsBaseAt, IsNoneAt, IsNoneWith, IsParkedOn, IsRowAhead, ReadsRow, counted_row};
 
+use crate::bounds::LONGEST_ENTRY;
 use crate::restoring::known::{Known, known_by};
 use crate::restoring::looking::is_end;
 use crate::restoring::said_lines::{layer_said, text_in};
@@ -26,9 +27,6 @@ use layer_undo::{DeskStart, check_scripts};
 use mark_base::{Bytes, Memory, Text};
 use std::alloc::Global;
 use std::sync::Arc;
-
-/// The least number of bytes of commands that no entry holds.
-const TOO_LONG: usize = 16_777_216;
 
 /// The row behind whose pieces a place lies: the number of its document, and the lines of its layer where it was
 /// committed.
@@ -253,7 +251,7 @@ fn can_be_parked(
     ensures { IfOk result (λ can. can ≡ false → IsParkedOn (arc_value conf.now) (arc_value base.now.text) base.now.layer commands.now → ⊥) }
 {
     accepted_scripts_can_be_written();
-    if commands.items().len() >= TOO_LONG {
+    if commands.items().len() >= LONGEST_ENTRY {
         return Ok(false);
     }
     let Some(scripts) = scripts_said(alloc, commands, &base.text, conf)? else {

@@ -3,24 +3,16 @@ ghost use Rattle.std.specs.Prelude.{◌≡◌, ◌<◌, ◌≤◌, IfOk, IfSome,
 ghost use Rattle.entry_bytes.specs.Entries.{entry_bytes};
 ghost use Rattle.project_machine.specs.Entries.{pieces_of};
 ghost use Rattle.project_machine.specs.Legal.{IsSound};
-ghost use Rattle.project_book.specs.Restoring.Restoring.{IsRun};
+ghost use Rattle.project_book.specs.Restoring.Restoring.{IsRun, IsRunLength};
 
+use crate::replaying::are_same;
+use crate::restoring::looking::is_end;
 use crate::restoring::sound::is_sound;
 use crate::restoring::whole::read_state;
 use crate::state_pieces::{pieces, states_are_told_apart};
 use mark_base::{Bytes, Memory};
 use project_state::BookState;
 use std::alloc::Global;
-
-/// The one byte of the last piece.
-const END_TAG: u8 = 24;
-
-/// Whether bytes are the same.
-fn are_same(bytes: &[u8], others: &[u8]) -> bool
-    ensures { result ≡ true → bytes.now ≡ others.now }
-{
-    bytes == others
-}
 
 /// Whether entries are the same.
 fn are_same_entries(entries: &[Bytes], others: &[Bytes]) -> bool
@@ -58,13 +50,14 @@ fn is_run(alloc: Global, state: &BookState, entries: &[Bytes]) -> Result<bool, M
 }
 
 /// How many entries stand in the run of pieces with which some entries begin: those up to the first last piece.
-/// `None` where there is no last piece.
+/// `None` where there is no last piece. Cost: at most the number of the entries.
 pub fn run_length(entries: &[Bytes]) -> Option<usize>
     ensures some { IfSome result (λ count. 0 < count) }
     ensures within { IfSome result (λ count. count ≤ length entries.now) }
+    ensures first { IsRunLength entries.now result }
 {
     for place in 0..entries.len() {
-        if are_same(entries[place].items(), &[END_TAG]) {
+        if is_end(entries[place].items()) {
             return Some(place + 1);
         }
     }

@@ -8,6 +8,7 @@ ghost use Rattle.project_machine.specs.Legal.{IsDocumentKept, IsRowKept};
 ghost use Rattle.project_machine.specs.RequestValues.{IsDocText};
 ghost use Rattle.project_book.specs.Restoring.Kept.{HasObeyed, IsCounted, IsFitting};
 
+use crate::bounds::COMMIT_BYTES;
 use crate::restoring::layers_kept::{draft_fits, is_blank, lines_fit, obeys_with};
 use char_documents::Doc;
 use command_bytes::{layer_is_typed, scripts_are_typed};
@@ -16,9 +17,6 @@ use mark_base::{Memory, Slug};
 use project_state::{StoredDocument, StoredRow};
 use std::alloc::Global;
 use std::sync::Arc;
-
-/// How many bytes the entry of a commit has beside the name and the lines.
-const COMMIT_BYTES: usize = 18;
 
 /// Whether nothing is set in a row where nothing was committed.
 fn is_unset(row: &StoredRow) -> bool

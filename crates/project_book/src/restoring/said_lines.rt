@@ -5,6 +5,7 @@ ghost use Rattle.project_state.specs.Entries.Reading.{ReadsLayer};
 ghost use Rattle.project_book.specs.Replaying.{IsReading};
 ghost use Rattle.project_book.specs.Restoring.Following.{AreLinesOfNone, AreNoLines, IsNoneBehind, IsNoneFor, IsTextIn, IsTextOf, doc_wanted};
 
+use crate::bounds::LONGEST_ENTRY;
 use crate::replaying::are_same;
 use crate::restoring::known::Known;
 use crate::restoring::so_far::{Before, SoFar};
@@ -35,7 +36,7 @@ pub(crate) fn layer_said(
     at_most_one_layer();
     written_layers_are_read_back();
     let bytes = lines.text().as_bytes();
-    if bytes.len() > 16_777_216 {
+    if bytes.len() > LONGEST_ENTRY {
         return Ok(None);
     }
     match read_ann(alloc, bytes, doc, conf) {

@@ -13,6 +13,7 @@ ghost use Rattle.project_book.specs.Restoring.Following.{IsNoneUpTo, StartsRun};
 ghost use Rattle.project_book.specs.Restoring.Sizes.{SizeFits, size_behind};
 ghost use Rattle.project_book.specs.Restoring.Walking.{IsStep, IsStepOf};
 
+use crate::bounds::{COMMIT_BYTES, HELD_BYTES, LONGEST_ENTRY};
 use crate::restoring::looking::is_end;
 use ann_writer::written_layers_are_utf8;
 use annotation_conf::sound_configurations_are_read_back;
@@ -20,20 +21,11 @@ use entry_bytes::{Entry, entries_are_told_apart, read_entry};
 use mark_base::{Bytes, Memory, Slug, Text, char_count};
 use std::alloc::Global;
 
-/// The greatest number of bytes of an entry that a journal takes.
-const LONGEST: usize = 16_777_216;
-
 /// The greatest number of characters of a document.
 const LONGEST_TEXT: usize = 200_000;
 
 /// The greatest number of characters of all documents.
 const MOST_CHARACTERS: usize = 16_777_216;
-
-/// How many bytes the entry of a commit has beside the name and the lines.
-const COMMIT_BYTES: usize = 18;
-
-/// How many bytes the piece of a layer that a snapshot holds has beside the name and the lines.
-const HELD_BYTES: usize = 6;
 
 /// How many characters there is room for behind the documents so far, and the annotator of the last row.
 #[derive(Drop)]
@@ -55,7 +47,7 @@ fn lines_fit(lines: &Text, beside: usize) -> bool
     ensures { result ≡ false → length lines.now + beside ≤ 16777216 → ⊥ }
 {
     let size = lines.text().len();
-    size <= LONGEST && beside <= LONGEST - size
+    size <= LONGEST_ENTRY && beside <= LONGEST_ENTRY - size
 }
 
 /// Whether lines fit the entry of a commit of this annotator, where one is known.
@@ -82,7 +74,7 @@ fn held_fits(who: &Slug, lines: &Text) -> bool
 fn draft_fits(commands: &Bytes) -> bool
     ensures { result ≡ false → IsShort (Entry.Draft commands.now) → ⊥ }
 {
-    commands.items().len() < LONGEST
+    commands.items().len() < LONGEST_ENTRY
 }
 
 /// Whether a piece is not too long.

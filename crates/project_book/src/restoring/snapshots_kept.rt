@@ -10,6 +10,7 @@ ghost use Rattle.curator_decisions.specs.Decisions.{Ascend};
 ghost use Rattle.project_machine.specs.ProjectState.{text_of};
 ghost use Rattle.project_book.specs.Restoring.Kept.{IsHeld, IsShotKept};
 
+use crate::bounds::HELD_BYTES;
 use crate::restoring::layers_kept::{lines_fit, obeys};
 use char_documents::Doc;
 use command_bytes::layer_is_typed;
@@ -20,9 +21,6 @@ use mark_base::{Memory, Slug};
 use project_state::{BookState, StoredSnapshot};
 use std::alloc::Global;
 use unanimous_merge::ItemId;
-
-/// How many bytes the piece of a layer that a snapshot holds has beside the name and the lines.
-const HELD_BYTES: usize = 6;
 
 /// Whether a layer of a holder can stand in a snapshot for a text.
 fn layer_is_held(

@@ -6,6 +6,7 @@ ghost use Rattle.project_machine.specs.People.{IsRoster};
 ghost use Rattle.project_machine.specs.ProjectState.{annotators};
 ghost use Rattle.project_book.specs.Restoring.Kept.{IsPlaced};
 
+use crate::bounds::{GREATEST_PLACE, LONGEST_CONF};
 use crate::restoring::rows_kept::documents_are_kept;
 use crate::restoring::snapshots_kept::snapshots_are_kept;
 use crate::state_pieces::annotator_names;
@@ -13,12 +14,6 @@ use annotation_conf::write_conf;
 use mark_base::Memory;
 use project_state::{BookState, Roster, names_are_spelt, rosters_can_found};
 use std::alloc::Global;
-
-/// The greatest place at which a project can begin.
-const GREATEST_PLACE: u64 = 4_611_686_018_427_387_904;
-
-/// The greatest number of bytes of the text of a configuration.
-const LONGEST_CONF: usize = 4_194_304;
 
 /// Tells a proof that a roster is one with which a project can be founded. Cost: the people.
 fn roster_is_one(roster: Roster)

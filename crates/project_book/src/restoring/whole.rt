@@ -2,6 +2,7 @@
 //!
 //! What is read of them here is not said by clauses: `restore` writes the pieces of the state that was read, and
 //! compares.
+use crate::bounds::LONGEST_CONF;
 use crate::restoring::pieces::{Heading, heading_in, next_piece};
 use crate::restoring::rows::{read_documents, read_texts};
 use crate::restoring::shots::read_snapshots;
@@ -13,9 +14,6 @@ use mark_base::{Bytes, Memory, Text};
 use project_state::{BookState, Roster, RosterFault, StoredDocument};
 use std::alloc::Global;
 use std::sync::Arc;
-
-/// The greatest number of bytes of the text of a configuration.
-const LONGEST_CONF: usize = 4_194_304;
 
 /// What stands before the documents: the place, the level, how much follows, the configuration and the people.
 #[derive(Drop)]

@@ -1,4 +1,4 @@
-use Rattle.project_book.specs.Restoring.Following.{IsEndless}
+use Rattle.project_book.specs.Restoring.Restoring.{IsEndless}
 use Rattle.project_book.specs.Restoring.HeldOrder.{held_behind, none_held}
 use Rattle.project_book.proofs.RestoringProofs.WalkLemmas.{IsWalked}
 use Rattle.project_book.proofs.restoring.held_order.misplaced_behind.Given as goal

@@ -1,4 +1,5 @@
-use Rattle.project_book.specs.Restoring.Following.{IsEndless, IsLookedAt}
+use Rattle.project_book.specs.Restoring.Following.{IsLookedAt}
+use Rattle.project_book.specs.Restoring.Restoring.{IsEndless}
 use Rattle.project_book.proofs.restoring.looking.look_on.Given as goal
 
 abbrev pub invariant-loop-place : goal.invariant-loop-place

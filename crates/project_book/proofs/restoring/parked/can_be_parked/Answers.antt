@@ -3,8 +3,8 @@ use Rattle.std.specs.Arc.{arc_value}
 use Rattle.project_book.proofs.RestoringProofs.ParkedLemmas.{bare, reads_same, refused, too_long, unread}
 use Rattle.project_book.proofs.restoring.parked.can_be_parked.Goals as goal
 
-pub returns-then-items-ge-TOO_LONG : goal.returns-then-items-ge-TOO_LONG
-returns-then-items-ge-TOO_LONG c = λ no.
+pub returns-then-items-ge-LONGEST_ENTRY : goal.returns-then-items-ge-LONGEST_ENTRY
+returns-then-items-ge-LONGEST_ENTRY c = λ no.
     let long : 16777216 ≤ length c.items.result.now = omega arith in
     too_long (arc_value c.args.conf.now) (arc_value c.args.base.now.text) c.args.base.now.layer c.args.commands.now (subst (λ (bytes : List ℕ). 16777216 ≤ length bytes) c.items.ensures long)
 

@@ -1,4 +1,4 @@
-use Rattle.project_book.specs.Restoring.Following.{IsEndless}
+use Rattle.project_book.specs.Restoring.Restoring.{IsEndless}
 use Rattle.project_book.proofs.restoring.parked.refused_behind.Given as goal
 
 abbrev pub invariant-loop-place : goal.invariant-loop-place

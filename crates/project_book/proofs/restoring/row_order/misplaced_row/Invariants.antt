@@ -1,4 +1,5 @@
-use Rattle.project_book.specs.Restoring.Following.{IsEndless, StandsBefore}
+use Rattle.project_book.specs.Restoring.Following.{StandsBefore}
+use Rattle.project_book.specs.Restoring.Restoring.{IsEndless}
 use Rattle.project_book.proofs.restoring.row_order.misplaced_row.Given as goal
 
 abbrev pub invariant-loop-place : goal.invariant-loop-place

@@ -1,4 +1,4 @@
-use Rattle.project_book.specs.Restoring.Following.{IsEndless}
+use Rattle.project_book.specs.Restoring.Restoring.{IsEndless}
 use Rattle.project_book.specs.Restoring.Sizes.{all_room, size_behind}
 use Rattle.project_book.proofs.RestoringProofs.WalkLemmas.{IsWalked}
 use Rattle.project_book.proofs.restoring.sizes.overlong_piece.Given as goal
