@@ -6,24 +6,14 @@
 #![tactic(auto)]
 
 mod case_folder;
-mod cases;
-mod compare;
-mod escapes;
-mod headers;
-mod looks;
-mod malformed;
-mod messages;
-mod prepared;
-mod runs;
 mod worlds;
 
-use crate::cases::{CaseFile, Written, read_cases};
-use crate::compare::{Differences, bytes_differ, differences_of};
-use crate::looks::{Look, Seen};
-use crate::malformed::{Flaw, Malformed};
-use crate::prepared::{Prepared, prepare};
 use crate::worlds::{Outcome, run_in_pieces, run_whole};
 use anyhow::{Context, Result};
+use case_files::{
+    CaseFile, Differences, Flaw, Look, Malformed, Prepared, Seen, Written, bytes_differ,
+    differences_of, prepare, read_cases,
+};
 use std::process::ExitCode;
 use std::{env, fs, str};
 

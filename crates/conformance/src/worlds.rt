@@ -3,12 +3,9 @@ ghost use Rattle.std.specs.Prelude.{ℕ, List, IfOk};
 ghost use Rattle.named_disks.specs.NamedDisks.{IsIn};
 
 use crate::case_folder::CaseFolder;
-use crate::looks::{Look, Seen};
-use crate::malformed::Malformed;
-use crate::prepared::{Left, Prepared};
-use crate::runs::{FailingDisk, Run};
 use annotation_cli::World;
 use annotation_cli::run::run_alone;
+use case_files::{FailingDisk, Left, Look, Malformed, Prepared, Run, Seen};
 use mark_base::{Bytes, Memory, MemoryLink, MemorySink, Text};
 use named_disks::{Disks, MemoryDisks};
 use project_journal::MemoryDisk;
