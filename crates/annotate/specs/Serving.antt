@@ -3,7 +3,7 @@ use Rattle.std.specs.Prelude.{◌≡◌, ℕ, ◌&&◌, ◌||◌, Bool, false, L
 use Rattle.program_inputs.specs.declared.trouble.Trouble.{Trouble}
 use Rattle.program_inputs.specs.declared.trouble.Trouble.TheVariants as trouble
 use Rattle.program_inputs.specs.Troubles as said
-use Rattle.annotation_cli.specs.Asked.{has_hyphen, number_read}
+use Rattle.command_words.specs.Asked.{has_hyphen, number_read}
 use Rattle.serve_command.specs.declared.serving.serve_end.ServeEnd.{ServeEnd}
 use Rattle.serve_command.specs.declared.serving.serve_end.ServeEnd.TheVariants as serve
 use Rattle.serve_command.specs.Serving.Serving.{Ends}

@@ -1,9 +1,9 @@
 //! The words of the command `serve`, and what its end comes to.
 ghost use Rattle.std.specs.Prelude.{◌≡◌, map, option_and_then, option_map, string_bytes};
-ghost use Rattle.annotation_cli.specs.Asked.{number_read};
+ghost use Rattle.command_words.specs.Asked.{number_read};
 ghost use Rattle.annotate.specs.Serving.{port_of, serving_by, serving_of, trouble_of};
 
-use annotation_cli::{has_hyphen, number_read};
+use command_words::{has_hyphen, number_read};
 use program_inputs::Trouble;
 use serve_command::ServeEnd;
 

@@ -1,13 +1,1 @@
 mod FreeLemmas
-mod CompactLemmas
-mod TwoLemmas
-mod NumberLemmas
-mod WordLemmas
-mod ImportLemmas
-mod WeakLemmas
-mod AloneLemmas
-mod KeeperLemmas
-mod PostingLemmas
-mod CuratorLemmas
-mod ReadingLemmas
-pub mod CommandsProofs

@@ -1,16 +1,5 @@
-pub mod Commands
-pub mod Adding
-pub mod Asked
 pub mod ColumnsIn
-pub mod ColumnsOut
-pub mod Compacting
-pub mod Founding
 pub mod Help
-pub mod Importing
 pub mod Printing
 pub mod Run
-pub mod Scoring
-pub mod Sessions
-pub mod Showing
 pub mod Verify
-pub mod Works

@@ -4,20 +4,20 @@ use Rattle.named_disks.specs.NamedDisks.{KeepsNames, Stored, reads_as}
 use Rattle.program_inputs.specs.declared.trouble.Trouble.{Trouble}
 use Rattle.program_inputs.specs.declared.trouble.Trouble.TheVariants.{Memory, Usage}
 use Rattle.program_inputs.specs.Troubles.{Ends}
-use Rattle.annotation_cli.specs.Commands.Trying.{TryTold}
+use Rattle.project_commands.specs.Commands.Trying.{TryTold}
 use Rattle.annotation_cli.specs.Help.{HelpTold}
 use Rattle.annotation_cli.specs.Printing.{Prints}
 use Rattle.demo_project.specs.Demos.{DemoTold}
-use Rattle.annotation_cli.specs.Founding.{Founds, NotFounded}
-use Rattle.annotation_cli.specs.Adding.{Adds, NotAdded}
-use Rattle.annotation_cli.specs.Importing.{Imports, NotImported}
-use Rattle.annotation_cli.specs.Showing.{Agrees, Exports, NoSnapshot, NotAgreed, NotExported, ShowsSnapshot}
-use Rattle.annotation_cli.specs.Scoring.{NotScored, PrintsScores}
-use Rattle.annotation_cli.specs.Sessions.{SessionTold}
-use Rattle.annotation_cli.specs.Asked.{BookCommand, Found, Add, Import, Export, ColumnsOut, Agree, Scores, Curated, Command, Help, Try, Verify, ColumnsIn, Compact, Demo, Session, OnBook, IsFileIn, command_of}
+use Rattle.project_commands.specs.Founding.{Founds, NotFounded}
+use Rattle.project_commands.specs.Adding.{Adds, NotAdded}
+use Rattle.project_commands.specs.Importing.{Imports, NotImported}
+use Rattle.project_commands.specs.Showing.{Agrees, Exports, NoSnapshot, NotAgreed, NotExported, ShowsSnapshot}
+use Rattle.project_commands.specs.Scoring.{NotScored, PrintsScores}
+use Rattle.project_commands.specs.Sessions.{SessionTold}
+use Rattle.command_words.specs.Asked.{BookCommand, Found, Add, Import, Export, ColumnsOut, Agree, Scores, Curated, Command, Help, Try, Verify, ColumnsIn, Compact, Demo, Session, OnBook, IsFileIn, command_of}
 use Rattle.annotation_cli.specs.ColumnsIn.{ColumnsTold}
-use Rattle.annotation_cli.specs.ColumnsOut.{NoColumns, PrintsColumns}
-use Rattle.annotation_cli.specs.Compacting.{Compacts, NotCompacted}
+use Rattle.project_commands.specs.ColumnsOut.{NoColumns, PrintsColumns}
+use Rattle.project_commands.specs.Compacting.{Compacts, NotCompacted}
 use Rattle.annotation_cli.specs.Verify.{VerifyTold}
 
 -- what the devices of a run tell at a moment: how many reads of the folder failed, what is left in the console and what it holds, and what the disks store

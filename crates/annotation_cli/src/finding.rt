@@ -2,17 +2,17 @@
 ghost use Rattle.std.specs.Prelude.{◌≡◌, ◌≢◌, IfErr, IsErrOf};
 ghost use Rattle.mark_base.specs.Streams.{TellsFault};
 ghost use Rattle.named_disks.specs.NamedDisks.{IsIn, KeepsOthers};
-ghost use Rattle.annotation_cli.specs.Asked.{book_command_in, file_in};
+ghost use Rattle.command_words.specs.Asked.{book_command_in, file_in};
 ghost use Rattle.annotation_cli.specs.Run.{Finds};
 
-use crate::asked::BookJob;
-use crate::{
-    add_document, export_layer, found_in_file, import_file, show_agreement, show_columns,
-    show_curated, show_scores,
-};
+use command_words::BookJob;
 use mark_base::{Bytes, Steps};
 use named_disks::Disks;
 use program_inputs::{Folder, Trouble};
+use project_commands::{
+    add_document, export_layer, found_in_file, import_file, show_agreement, show_columns,
+    show_curated, show_scores,
+};
 use std::alloc::Global;
 use std::sync::ledger::Ledger;
 

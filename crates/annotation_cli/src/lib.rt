@@ -14,48 +14,23 @@
 //! let status = run_alone(alloc, &words, &mut world);
 //! ```
 //!
-//! The commands that work on the project of a file are calls by themselves. What they find is bytes, which [`print_found`] writes:
+//! Which command the words are stands in `command_words`, what the commands on a project do in `project_commands`. What those
+//! find is bytes, which [`print_found`] writes:
 //!
 //! ```text
-//! let found = add_document(alloc, "news.book", "cur", "x", "x.txt", &mut folder, &mut disks, &mut steps);
+//! let found = add_document(alloc, "news.book", &caller, name, "x.txt", &mut folder, &mut disks, &mut steps);
 //! print_found(&mut console, found)?; // tokens 4
 //! ```
 #![tactic(auto)]
 
-mod adding;
-mod agreeing;
-mod asked;
 mod columns_in;
-mod columns_out;
-mod commands;
-mod compacting;
-mod examples;
 mod finding;
-mod founding;
 mod help;
-mod importing;
 mod printing;
 pub mod run;
-mod scoring;
-mod sessions;
-mod showing;
 mod verify;
 mod world;
 
-pub use crate::adding::add_document;
-pub use crate::agreeing::show_agreement;
-pub use crate::asked::{has_hyphen, number_read};
-pub use crate::columns_out::show_columns;
-pub use crate::commands::{
-    add_text, ask_granted, check_out, requests_are_granted_or_refused, serve, slug_of, try_project,
-};
-pub use crate::compacting::compact;
-pub use crate::examples::examples_of_words;
-pub use crate::founding::found_in_file;
 pub use crate::help::help_text;
-pub use crate::importing::import_file;
 pub use crate::printing::print_found;
-pub use crate::scoring::show_scores;
-pub use crate::sessions::serve_session;
-pub use crate::showing::{export_layer, show_curated};
 pub use crate::world::World;

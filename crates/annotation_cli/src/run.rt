@@ -3,20 +3,20 @@ ghost use Rattle.std.specs.Prelude.{◌≡◌, ◌≢◌, ◌<◌, ◌⊎◌, �
 ghost use Rattle.mark_base.specs.Streams.{Rose, TellsFault};
 ghost use Rattle.named_disks.specs.NamedDisks.{IsIn};
 ghost use Rattle.demo_project.specs.Demos.{DemoTold};
-ghost use Rattle.annotation_cli.specs.Asked.{NamesTwo, command_in, command_of};
+ghost use Rattle.command_words.specs.Asked.{NamesTwo, command_in, command_of};
 ghost use Rattle.annotation_cli.specs.Run.{Does, KeepsBut, Runs, looks_for_faults};
 
-use crate::asked::{BookJob, Job, job_of};
 use crate::columns_in::columns_in;
-use crate::commands::try_project;
 use crate::finding::find;
 use crate::verify::verify;
 use crate::world::World;
-use crate::{compact, help_text, print_found, serve_session};
+use crate::{help_text, print_found};
+use command_words::{BookJob, Job, job_of};
 use demo_project::demo;
 use mark_base::{Bytes, Link, Memory, Sink, Steps};
 use named_disks::Disks;
 use program_inputs::{Folder, Trouble, end_run};
+use project_commands::{compact, serve_session, try_project};
 use std::alloc::Global;
 use std::marker::Brand;
 use std::sync::ledger::{Blank, Ledger};

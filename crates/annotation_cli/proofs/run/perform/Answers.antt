@@ -1,4 +1,4 @@
-use Rattle.annotation_cli.specs.Asked.{book_command_in, file_in}
+use Rattle.command_words.specs.Asked.{book_command_in, file_in}
 use Rattle.annotation_cli.proofs.FreeLemmas.{free_after, free_after_two}
 use Rattle.annotation_cli.proofs.run.perform.Goals as goal
 

@@ -1,8 +1,8 @@
 use Rattle.std.proofs.Common.{map, string_bytes, Err, inr, refl, subst, sym}
 use Rattle.program_inputs.specs.declared.trouble.Trouble.TheVariants.{Memory}
 use Rattle.program_inputs.proofs.Troubles.{not_err}
-use Rattle.annotation_cli.specs.Asked.{NamesTwo}
-use Rattle.annotation_cli.proofs.TwoLemmas.{names_two}
+use Rattle.command_words.specs.Asked.{NamesTwo}
+use Rattle.command_words.proofs.TwoLemmas.{names_two}
 use Rattle.annotation_cli.proofs.run.run_alone.Goals as goal
 
 pub returns-in-Err-clause-told : goal.returns-in-Err-clause-told

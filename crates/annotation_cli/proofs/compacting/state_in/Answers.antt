@@ -1,5 +1,0 @@
-use Rattle.annotation_cli.proofs.CompactLemmas.{none_out}
-use Rattle.annotation_cli.proofs.compacting.state_in.Goals as goal
-
-pub state_of-told-requires : goal.state_of-told-requires
-state_of-told-requires g c = none_out _ _ c.in_ok-project.ensures.opened

@@ -1,6 +1,0 @@
-use Rattle.std.proofs.Common.{◌≡◌, take}
-use Rattle.annotation_cli.proofs.PostingLemmas.{annotators_in}
-use Rattle.annotation_cli.proofs.scoring.annotator_names.Given as goal
-
-abbrev pub invariant-loop-person : goal.invariant-loop-person
-invariant-loop-person l = l.names.items ≡ annotators_in (take l.person-index l.people)

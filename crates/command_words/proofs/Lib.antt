@@ -1,0 +1,3 @@
+pub mod TwoLemmas
+mod NumberLemmas
+mod WordLemmas

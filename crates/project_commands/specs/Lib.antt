@@ -1,0 +1,10 @@
+pub mod Commands
+pub mod Adding
+pub mod ColumnsOut
+pub mod Compacting
+pub mod Founding
+pub mod Importing
+pub mod Scoring
+pub mod Sessions
+pub mod Showing
+pub mod Works
