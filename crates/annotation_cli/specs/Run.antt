@@ -5,7 +5,7 @@ use Rattle.program_inputs.specs.declared.trouble.Trouble.{Trouble}
 use Rattle.program_inputs.specs.declared.trouble.Trouble.TheVariants.{Memory, Usage}
 use Rattle.program_inputs.specs.Troubles.{Ends}
 use Rattle.project_commands.specs.Commands.Trying.{TryTold}
-use Rattle.annotation_cli.specs.Help.{HelpTold}
+use Rattle.annotation_cli.specs.Help.{HelpTold, VersionTold}
 use Rattle.annotation_cli.specs.Printing.{Prints}
 use Rattle.demo_project.specs.Demos.{DemoTold}
 use Rattle.project_commands.specs.Founding.{Founds, NotFounded}
@@ -14,7 +14,7 @@ use Rattle.project_commands.specs.Importing.{Imports, NotImported}
 use Rattle.project_commands.specs.Showing.{Agrees, Exports, NoSnapshot, NotAgreed, NotExported, ShowsSnapshot}
 use Rattle.project_commands.specs.Scoring.{NotScored, PrintsScores}
 use Rattle.project_commands.specs.Sessions.{SessionTold}
-use Rattle.command_words.specs.Asked.{BookCommand, Found, Add, Import, Export, ColumnsOut, Agree, Scores, Curated, Command, Help, Try, Verify, ColumnsIn, Compact, Demo, Session, OnBook, IsFileIn, command_of}
+use Rattle.command_words.specs.Asked.{BookCommand, Found, Add, Import, Export, ColumnsOut, Agree, Scores, Curated, Command, Help, Version, Try, Verify, ColumnsIn, Compact, Demo, Session, OnBook, IsFileIn, command_of}
 use Rattle.annotation_cli.specs.ColumnsIn.{ColumnsTold}
 use Rattle.project_commands.specs.ColumnsOut.{NoColumns, PrintsColumns}
 use Rattle.project_commands.specs.Compacting.{Compacts, NotCompacted}
@@ -77,6 +77,7 @@ pub record ShowsDemo (number : ℕ) (old new : Told) (done : Result (Unit {0}) T
 abbrev pub Does : (file : List ℕ → Option (Option (List ℕ))) → Option Command → (faultless : Type 0) → (old new : Told) → Result (Unit {0}) Trouble → Type 0
 Does file None faultless old new done = IsNoCommand old new done
 Does file (Some Help) faultless old new done = HelpTold old.left new.left old.held new.held done
+Does file (Some Version) faultless old new done = VersionTold old.left new.left old.held new.held done
 Does file (Some (Try conf text)) faultless old new done = TryTold (file conf) (file text) old.folder_faults new.folder_faults old.left new.left old.held new.held done
 Does file (Some (Verify conf text ann)) faultless old new done =
     VerifyTold (file conf) (file text) (file ann) old.folder_faults new.folder_faults old.held new.held done × (new.left ≡ old.left)

@@ -1,5 +1,6 @@
-//! What `--help` prints.
-ghost use Rattle.std.specs.Prelude.{◌≡◌, ◌≢◌, IfErr};
+//! What `--help` and `--version` print.
+ghost use Rattle.std.specs.Prelude.{◌≡◌, ◌≢◌, IfErr, MatchResult};
+ghost use Rattle.annotation_cli.specs.Help.{version_line};
 
 use mark_base::Bytes;
 use program_inputs::Trouble;
@@ -7,7 +8,7 @@ use std::alloc::Global;
 
 /// Every command in a line with an example, what each status means, and where the documents are.
 const HELP: &str = "annotate WORDS: text annotation by several people, and its curation.
-BOOK, OLD and NEW are files of projects. Each other file is only read.
+BOOK, OLD and NEW are files of projects. Each other file is only read. --version names the program.
 
   try CONF TEXT                  serves a project in memory on the console, from a desk on its one text
       annotate try news.conf news.txt <requests
@@ -47,10 +48,21 @@ Status 0: done. 1: a fault of an .ann file, or of the configuration beside it. 2
 docs/getting-started.md is a first project; docs/operating.md says what each line of complaint means.
 ";
 
+/// The program's name and version.
+const VERSION: &str = "annotate 1.0.0\n";
+
 /// The text of the help.
 pub fn help_text(alloc: Global) -> Result<Bytes, Trouble>
     ensures { IfErr result (λ trouble. trouble ≡ Trouble.Memory) }
 {
     let text = Bytes::of(alloc, HELP.as_bytes())?;
     Ok(text)
+}
+
+/// The name and the version of the program, as a line.
+pub fn version_line(alloc: Global) -> Result<Bytes, Trouble>
+    ensures { MatchResult result (λ line. line ≡ version_line) (λ trouble. trouble ≡ Trouble.Memory) }
+{
+    let line = Bytes::of(alloc, VERSION.as_bytes())?;
+    Ok(line)
 }

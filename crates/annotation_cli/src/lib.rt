@@ -31,6 +31,6 @@ pub mod run;
 mod verify;
 mod world;
 
-pub use crate::help::help_text;
+pub use crate::help::{help_text, version_line};
 pub use crate::printing::print_found;
 pub use crate::world::World;

@@ -10,7 +10,7 @@ use crate::columns_in::columns_in;
 use crate::finding::find;
 use crate::verify::verify;
 use crate::world::World;
-use crate::{help_text, print_found};
+use crate::{help_text, print_found, version_line};
 use command_words::{BookJob, Job, job_of};
 use demo_project::demo;
 use mark_base::{Bytes, Link, Memory, Sink, Steps};
@@ -56,6 +56,10 @@ fn perform<F: Folder, C: Link, D: Disks, G: Ledger>(
         Some(Job::Help) => {
             let text = help_text(alloc);
             print_found(console, text)
+        }
+        Some(Job::Version) => {
+            let line = version_line(alloc);
+            print_found(console, line)
         }
         Some(Job::Try { conf, text }) => try_project(alloc, conf, text, folder, console, steps),
         Some(Job::Verify { conf, text, ann }) => verify(alloc, conf, text, ann, folder, console),
@@ -127,6 +131,7 @@ fn looks_for_faults(job: &Option<Job<'_>>) -> bool
 /// | words | what is done | printed |
 /// |---|---|---|
 /// | `--help` | | every command with an example |
+/// | `--version` | | `annotate 1.0.0` |
 /// | `try CONF TEXT` | a project in memory is founded on a configuration and a text, and the console is served from a desk on it | the answers |
 /// | `found BOOK CONF ROSTER`, `found-at BOOK CONF ROSTER LEVEL` | a project is founded in a file, the second at a level of the tree of types | `annotators 3 curators 1` |
 /// | `add BOOK CALLER NAME TEXT` | a text becomes a document of the project | `tokens 4` |

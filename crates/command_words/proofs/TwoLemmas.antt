@@ -3,7 +3,7 @@ use Rattle.std.proofs.Common.{◌≡◌, ℕ, Bool, true, false, List, [], ◌�
 use Rattle.std.specs.Prelude.{bytes_eq, codes, option_and_then, option_map}
 use Rattle.std.specs.Bool.{Decides}
 use Rattle.std.proofs.lemmas.Slice.Eq.{bytes_eq-Decides}
-use Rattle.command_words.specs.Asked.{Command, BookCommand, Help, Session, Compact, OnBook, Agree, Scores, Curated, Export, ColumnsOut, Try, Verify, ColumnsIn, Found, Add, Import, NamesTwo, alone, with_one, with_two, with_three, with_four, compact_of, curated_of, demo_of, export_of, columns_of, add_of, import_of, found_at, unless_hyphens, has_hyphen, is_slug, number_read, level_of, command_of}
+use Rattle.command_words.specs.Asked.{Command, BookCommand, Help, Version, Session, Compact, OnBook, Agree, Scores, Curated, Export, ColumnsOut, Try, Verify, ColumnsIn, Found, Add, Import, NamesTwo, alone, with_one, with_two, with_three, with_four, compact_of, curated_of, demo_of, export_of, columns_of, add_of, import_of, found_at, unless_hyphens, has_hyphen, is_slug, number_read, level_of, command_of}
 
 false_true : ◌≡◌ {A = Bool} false true → ⊥
 false_true same = cc
@@ -33,7 +33,7 @@ founded book conf roster None = tt
 founded book conf roster (Some level) = tt
 
 single : (name : List ℕ) → NamesTwo (alone name)
-single name = either (bytes_eq name (codes "--help")) (Some Help) None tt tt
+single name = either (bytes_eq name (codes "--help")) (Some Help) _ tt (either (bytes_eq name (codes "--version")) (Some Version) None tt tt)
 
 of_one : (name a : List ℕ) → NamesTwo (with_one name a)
 of_one name a =

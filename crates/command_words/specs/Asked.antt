@@ -22,6 +22,7 @@ pub data BookCommand : Type 0 where
 -- a command, with the words behind its name
 pub data Command : Type 0 where
   Help : Command
+  Version : Command
   Try : (conf text : List ℕ) → Command
   Verify : (conf text ann : List ℕ) → Command
   ColumnsIn : (conf text columns : List ℕ) → Command
@@ -56,7 +57,7 @@ level_of number = if nat_lt number 255 then Some number else None
 
 -- a command of no word more
 abbrev pub alone : (name : List ℕ) → Option Command
-alone name = if bytes_eq name (codes "--help") then Some Help else None
+alone name = if bytes_eq name (codes "--help") then Some Help else if bytes_eq name (codes "--version") then Some Version else None
 
 -- the session of this number
 abbrev pub demo_of : Option ℕ → Option Command
@@ -125,7 +126,7 @@ with_four name a b c d =
 abbrev pub unless_hyphens : Bool → Option Command → Option Command
 unless_hyphens hyphens command = if hyphens then None else command
 
--- the command that the words are; but for a single `--help` a word that begins with a hyphen is none of a command
+-- the command that the words are; but for a single `--help` or `--version` a word that begins with a hyphen is none of a command
 abbrev pub command_of : List (List ℕ) → Option Command
 command_of (name ∷ []) = alone name
 command_of (name ∷ a ∷ []) = unless_hyphens (has_hyphen a) (with_one name a)
@@ -150,6 +151,7 @@ book_command_in (on.Curated book number) = Curated book.now number
 -- the command of a job
 abbrev pub command_in : Job → Command
 command_in job.Help = Help
+command_in job.Version = Version
 command_in (job.Try conf text) = Try conf.now text.now
 command_in (job.Verify conf text ann) = Verify conf.now text.now ann.now
 command_in (job.ColumnsIn conf text columns) = ColumnsIn conf.now text.now columns.now

@@ -63,6 +63,8 @@ pub enum BookJob<'w> {
 pub enum Job<'w> {
     /// What the commands are.
     Help,
+    /// Which program it is.
+    Version,
     /// A project in memory on a configuration and a text, served on the console.
     Try {
         conf: &'w str,
@@ -175,10 +177,12 @@ fn alone<'w>(name: &str) -> Option<Job<'w>>
     ensures { option_map command_in result ≡ alone name.now }
 {
     if name == "--help" {
-        Some(Job::Help)
-    } else {
-        None
+        return Some(Job::Help);
     }
+    if name == "--version" {
+        return Some(Job::Version);
+    }
+    None
 }
 
 /// The session of a number, where a word spells one.

@@ -1,6 +1,6 @@
 //! The definitions of words on a few examples.
 ghost use Rattle.std.specs.Prelude.{◌≡◌, ◌∷◌, [], None, Some, codes};
-ghost use Rattle.command_words.specs.Asked.{command_of, Agree, ColumnsIn, Compact, Curated, Found, Help, OnBook, Scores, Session, Try, Verify};
+ghost use Rattle.command_words.specs.Asked.{command_of, Agree, ColumnsIn, Compact, Curated, Found, Help, OnBook, Scores, Session, Try, Verify, Version};
 
 /// Which words are a command.
 pub fn examples_of_words()
@@ -8,6 +8,7 @@ pub fn examples_of_words()
     ensures case { command_of (codes "Try" ∷ codes "a" ∷ codes "b" ∷ []) ≡ None }
     ensures hyphen { command_of (codes "try" ∷ codes "a" ∷ codes "--help" ∷ []) ≡ None }
     ensures help { command_of (codes "--help" ∷ []) ≡ Some Help }
+    ensures version { command_of (codes "--version" ∷ []) ≡ Some Version }
     ensures alone { command_of (codes "agree" ∷ []) ≡ None }
     ensures few { command_of (codes "try" ∷ codes "a" ∷ []) ≡ None }
     ensures many { command_of (codes "try" ∷ codes "a" ∷ codes "b" ∷ codes "c" ∷ []) ≡ None }
