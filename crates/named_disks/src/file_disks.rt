@@ -10,6 +10,9 @@ use std::rt::Files;
 
 /// The files of the system as disks. They tell nothing of what a file holds. A name that is not there is made as a
 /// file of length 0; one that cannot be opened for reading and writing, as a folder's, is a fault of the device.
+///
+/// A file is locked, whole and for one process, before a byte of it is read, and until its disk is given back or the process
+/// ends, however it ends. A file that another process has locked is a fault of the device, and left as it is.
 #[derive(Debug, Drop)]
 pub struct FileDisks<R> {
     rt: R,
@@ -25,13 +28,15 @@ impl<R: Files<File = File>> FileDisks<R> {
     }
 }
 
-/// Opens the file of a name for reading and writing, and makes it where it is not there.
-fn open_or_make<R: Files>(rt: &R, name: &str) -> io::Result<R::File> {
-    OpenOptions::new()
+/// Opens the file of a name for reading and writing, makes it where it is not there, and locks it.
+fn open_or_make<R: Files<File = File>>(rt: &R, name: &str) -> io::Result<File> {
+    let file = OpenOptions::new()
         .read(true)
         .write(true)
         .create(true)
-        .open(rt, name)
+        .open(rt, name)?;
+    file.try_lock()?;
+    Ok(file)
 }
 
 impl<R: Files<File = File>> Disks for FileDisks<R> {

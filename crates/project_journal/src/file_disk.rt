@@ -5,17 +5,28 @@ ghost use Rattle.mark_base.specs.Streams.{Rose};
 use crate::Disk;
 use mark_base::{Failed, Memory};
 use std::fs::File;
-use std::os::unix::fs::FileExt;
+use std::os::unix::fs::{FileExt, MetadataExt};
 
 /// A disk over an open file of the operating system. It tells nothing of what the file holds: that the
 /// system keeps the crash model is trusted, and not proved.
 ///
-/// Each call of the system that fails is counted as one fault, and so is a write that takes no bytes.
+/// Each call of the system that fails is counted as one fault, and so is a write that takes no bytes. So is a sync after
+/// which the file has no name any more, where it had one as the disk was made: it was removed, or another put in its place,
+/// and what is written to it is lost once it is closed.
 /// The file must be open for reading, and for writing where a journal is to grow in it.
 #[derive(Drop)]
 pub struct FileDisk {
     file: File,
+    is_named: bool,
     faults: u64,
+}
+
+/// Whether a file has a name in some folder.
+fn has_name(file: &File) -> bool {
+    match file.metadata() {
+        Ok(metadata) => metadata.nlink() > 0,
+        Err(_) => false,
+    }
 }
 
 impl FileDisk {
@@ -23,7 +34,12 @@ impl FileDisk {
     pub fn new(file: File) -> Self
         ensures faults { ⟦<FileDisk as Disk>⟧.faults result ≡ 0 }
     {
-        FileDisk { file, faults: 0 }
+        let is_named = has_name(&file);
+        FileDisk {
+            file,
+            is_named,
+            faults: 0,
+        }
     }
 
     /// Counts a fault.
@@ -98,8 +114,8 @@ impl Disk for FileDisk {
 
     fn sync(&mut self) -> Result<(), Failed> {
         match self.file.sync_data() {
-            Ok(()) => Ok(()),
-            Err(_) => Err(self.fault()),
+            Ok(()) if !self.is_named || has_name(&self.file) => Ok(()),
+            _ => Err(self.fault()),
         }
     }
 }
