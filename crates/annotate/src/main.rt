@@ -22,8 +22,18 @@ use mark_base::Sink;
 use named_disks::FileDisks;
 use program_inputs::{Trouble, end_run};
 use std::env;
+use std::fs::{File, OpenOptions};
 use std::io::{self, ErrorKind};
 use std::process::ExitCode;
+use std::rt::Files;
+
+/// Opens the null device for reading and writing.
+fn null_device<R: Files<File = File>>(rt: &R) -> io::Result<File> {
+    OpenOptions::new()
+        .read(true)
+        .write(true)
+        .open(rt, "/dev/null")
+}
 
 /// The words after the program's name.
 fn words(rt: &HostRuntime) -> io::Result<Vec<String>> {
@@ -49,6 +59,9 @@ fn end_early<P: Sink>(rt: &HostRuntime, complaint: &mut P, trouble: Trouble) -> 
 }
 
 fn main(rt: HostRuntime) -> ExitCode {
+    // A file takes the lowest descriptor that is free. After three that are opened first, 0 to 2 are taken, so that what is
+    // printed goes to no other file, whatever the caller has closed.
+    let _taken = [null_device(&rt), null_device(&rt), null_device(&rt)];
     let mut complaint = ErrorSink::new(rt.stderr());
     let words = match words(&rt) {
         Ok(words) => words,

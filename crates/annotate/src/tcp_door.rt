@@ -5,7 +5,7 @@ use crate::tcp_link::TcpLink;
 use mark_base::Failed;
 use serve_command::Door;
 use std::io::{Read, Write};
-use std::net::OpenListener;
+use std::net::{OpenListener, OpenStream};
 
 /// How often a connection is asked for before that is a fault. A client that is gone before it is accepted, say, costs one.
 const ASKED: u32 = 1000;
@@ -42,7 +42,7 @@ impl<L> TcpDoor<L> {
 
 impl<L: OpenListener> Door for TcpDoor<L>
 where
-    L::Stream: Read + Write + Send + Drop,
+    L::Stream: Read + Write + OpenStream + Send + Drop,
 {
     type Link = TcpLink<L::Stream>;
 
