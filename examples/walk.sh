@@ -5,6 +5,12 @@
 set -eu
 here="$(cd "$(dirname "${BASH_SOURCE[0]}")" && pwd)"
 annotate="$(readlink -f "${1:-$here/../annotate}")"
+# The program itself, where that is a script that runs it: what is killed is the program.
+program="$annotate"
+if [ "$(head -c 2 "$annotate")" = "#!" ]; then
+    "$annotate" --version >/dev/null
+    program="$("$annotate" which | cut -d: -f1)"
+fi
 folder="$(mktemp -d)"
 trap 'rm -rf "$folder"' EXIT
 cd "$folder"
@@ -59,7 +65,7 @@ expect $'T1\tPerson 0 3\tAnn\nT2\tPerson 8 11\tBob\nT3\tLocation 15 19\tRome\nR1
 # A session is killed while it commits. Behind that the project opens, and has the change where it was answered.
 there=
 for delay in 0 0.002 0.004 0.008 0.016 0.032 0.064; do
-    "$annotate" session news.book < <(cat "$here/commit.http"; exec sleep 5) >answers &
+    "$program" session news.book < <(cat "$here/commit.http"; exec sleep 5) >answers &
     session=$!
     sleep "$delay"
     kill -KILL "$session" 2>/dev/null || true
