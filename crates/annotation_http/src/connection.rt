@@ -7,8 +7,8 @@
 //! let ending = serve_link(alloc, &mut visitor, Start::Bare, &mut link, &mut steps);
 //! ```
 //!
-//! `specs/Steps.antt` has one message with its answer, `specs/Session.antt` the whole connection by its ending,
-//! `specs/Talk.antt` its messages, and `specs/OneHistory.antt` the same as one history tells it.
+//! In `specs/Connection/`, `Steps.antt` has one message with its answer, `Session.antt` the whole connection by its ending,
+//! `Talk.antt` its messages, and `OneHistory.antt` the same as one history tells it.
 mod answering;
 mod ending;
 mod laws;
