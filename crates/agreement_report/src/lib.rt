@@ -13,6 +13,8 @@
 
 mod figure;
 mod report;
+mod worked_decimals;
 
 pub use figure::decimals;
 pub use report::{alpha_csv, pairs_csv};
+pub use worked_decimals::examples_of_decimals;

@@ -1,23 +1,22 @@
 //! The program: it gives [`run`] the words of its command and the real world, which is the files of the
 //! system, as a folder and as disks, standard input and output as the console, standard error for the one line of a
-//! run that does not do its job, and the ports of this machine as doors.
+//! run that does not do its job and for where a project is served, and the ports of this machine as doors.
 #![tactic(auto)]
 
 mod console;
 mod error_sink;
 mod file_folder;
-mod run;
-mod serving;
 mod tcp_door;
 mod tcp_doors;
 mod tcp_link;
+#[cfg(test)]
+mod tests;
 
 use crate::console::Console;
 use crate::error_sink::ErrorSink;
 use crate::file_folder::FileFolder;
-use crate::run::run;
 use crate::tcp_doors::TcpDoors;
-use annotation_cli::World;
+use annotation_program::{World, run};
 use mark_base::Sink;
 use named_disks::FileDisks;
 use program_inputs::{Trouble, end_run};
@@ -75,8 +74,8 @@ fn main(rt: HostRuntime) -> ExitCode {
         Ok(rt) => FileDisks::new(rt),
         Err(_) => return end_early(&rt, &mut complaint, Trouble::Memory),
     };
-    let mut doors = match rt.clone() {
-        Ok(rt) => TcpDoors::new(rt),
+    let doors = match rt.clone() {
+        Ok(of_doors) => TcpDoors::new(of_doors, rt.stderr()),
         Err(_) => return end_early(&rt, &mut complaint, Trouble::Memory),
     };
     let mut world = World {
@@ -84,6 +83,7 @@ fn main(rt: HostRuntime) -> ExitCode {
         console: Console::new(rt.stdin(), rt.stdout()),
         complaint,
         disks,
+        doors,
     };
-    ExitCode::from(run(&rt, rt.alloc(), &words, &mut world, &mut doors))
+    ExitCode::from(run(&rt, rt.alloc(), &words, &mut world))
 }

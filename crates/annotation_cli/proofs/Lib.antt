@@ -1,1 +1,2 @@
 mod FreeLemmas
+mod StatusLemmas

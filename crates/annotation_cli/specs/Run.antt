@@ -14,7 +14,7 @@ use Rattle.project_commands.specs.Importing.{Imports, NotImported}
 use Rattle.project_commands.specs.Showing.{Agrees, Exports, NoSnapshot, NotAgreed, NotExported, ShowsSnapshot}
 use Rattle.project_commands.specs.Scoring.{NotScored, PrintsScores}
 use Rattle.project_commands.specs.Sessions.{SessionTold}
-use Rattle.command_words.specs.Asked.{BookCommand, Found, Add, Import, Export, ColumnsOut, Agree, Scores, Curated, Command, Help, Version, Try, Verify, ColumnsIn, Compact, Demo, Session, OnBook, IsFileIn, command_of}
+use Rattle.command_words.specs.Asked.{BookCommand, Found, Add, Import, Export, ColumnsOut, Agree, Scores, Curated, Command, Help, Version, Try, Verify, ColumnsIn, Compact, Demo, Session, OnBook, IsChangedBy, command_of}
 use Rattle.annotation_cli.specs.ColumnsIn.{ColumnsTold}
 use Rattle.project_commands.specs.ColumnsOut.{NoColumns, PrintsColumns}
 use Rattle.project_commands.specs.Compacting.{Compacts, NotCompacted}
@@ -44,13 +44,13 @@ Finds file (Add book caller name text) before now stored stored_now found =
 Finds file (Import book who name ann) before now stored stored_now found =
     MatchResult found (Imports (reads_as stored book) (reads_as stored_now book) who name (file ann)) (NotImported (reads_as stored book) who name (file ann) before now)
 Finds file (Export book who name) before now stored stored_now found =
-    MatchResult found (Exports (reads_as stored book) (reads_as stored_now book) who name) (NotExported (reads_as stored book) who name)
+    MatchResult found (Exports (reads_as stored book) who name) (NotExported (reads_as stored book) who name)
 Finds file (ColumnsOut book who name) before now stored stored_now found =
-    MatchResult found (PrintsColumns (reads_as stored book) (reads_as stored_now book) who name) (NoColumns (reads_as stored book) who name)
-Finds file (Agree book) before now stored stored_now found = MatchResult found (Agrees (reads_as stored book) (reads_as stored_now book)) (NotAgreed (reads_as stored book))
-Finds file (Scores book) before now stored stored_now found = MatchResult found (PrintsScores (reads_as stored book) (reads_as stored_now book)) (NotScored (reads_as stored book))
+    MatchResult found (PrintsColumns (reads_as stored book) who name) (NoColumns (reads_as stored book) who name)
+Finds file (Agree book) before now stored stored_now found = MatchResult found (Agrees (reads_as stored book)) (NotAgreed (reads_as stored book))
+Finds file (Scores book) before now stored stored_now found = MatchResult found (PrintsScores (reads_as stored book)) (NotScored (reads_as stored book))
 Finds file (Curated book number) before now stored stored_now found =
-    MatchResult found (ShowsSnapshot (reads_as stored book) (reads_as stored_now book) number) (NoSnapshot (reads_as stored book) number)
+    MatchResult found (ShowsSnapshot (reads_as stored book) number) (NoSnapshot (reads_as stored book) number)
 
 -- a command on the project of a file: what it found was printed; the console is not read
 pub record Shows (file : List ℕ → Option (Option (List ℕ))) (command : BookCommand) (old new : Told) (done : Result (Unit {0}) Trouble) : Type 0 where
@@ -62,7 +62,7 @@ pub record Shows (file : List ℕ → Option (Option (List ℕ))) (command : Boo
 -- a project was compacted into another file, and its place was printed; the console is not read
 pub record ShowsCompact (book made : List ℕ) (old new : Told) (done : Result (Unit {0}) Trouble) : Type 0 where
   pub found : Result (List ℕ) Trouble
-  pub finds : MatchResult found (Compacts (reads_as old.stored book) (reads_as new.stored book) (reads_as new.stored made)) (NotCompacted (reads_as old.stored book) (reads_as old.stored made))
+  pub finds : MatchResult found (Compacts (reads_as old.stored book) (reads_as new.stored made)) (NotCompacted (reads_as old.stored book) (reads_as old.stored made))
   pub prints : Prints found old.held new.held done
   pub unread : new.left ≡ old.left
 
@@ -94,9 +94,9 @@ looks_for_faults (Some (Verify conf text ann)) = true
 looks_for_faults (Some (OnBook (Import book who name ann))) = true
 looks_for_faults other = false
 
--- each name but the files on which the words' command works is as before: what its disk reads as, and whether it is out
+-- each name but the file that the words' command may change is as before: what its disk reads as, whether there is one, and whether it is out
 abbrev pub KeepsBut : Option Command → Option Stored → Option (List (List ℕ)) → Option Stored → Option (List (List ℕ)) → Type 0
-KeepsBut command = KeepsNames (λ name. IsFileIn command name → ⊥)
+KeepsBut command = KeepsNames (λ name. IsChangedBy command name → ⊥)
 
 -- a run: what its command came to, and what it says of that on the complaint sink; there may be no memory to read its words
 pub record Runs (file : List ℕ → Option (Option (List ℕ))) (words : List (List ℕ)) (faultless : Type 0) (old new : Told)

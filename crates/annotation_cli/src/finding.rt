@@ -1,8 +1,8 @@
 //! What a command on the project of a file finds to print.
-ghost use Rattle.std.specs.Prelude.{◌≡◌, ◌≢◌, IfErr, IsErrOf};
+ghost use Rattle.std.specs.Prelude.{◌≡◌, ◌≢◌, ℕ, List, IfErr, IsErrOf};
 ghost use Rattle.mark_base.specs.Streams.{TellsFault};
-ghost use Rattle.named_disks.specs.NamedDisks.{IsIn, KeepsOthers};
-ghost use Rattle.command_words.specs.Asked.{book_command_in, file_in};
+ghost use Rattle.named_disks.specs.NamedDisks.{IsIn, KeepsNames, is_there};
+ghost use Rattle.command_words.specs.Asked.{IsChangedOn, IsMadeOn, book_command_in, file_in};
 ghost use Rattle.annotation_cli.specs.Run.{Finds};
 
 use command_words::BookJob;
@@ -27,9 +27,11 @@ pub(crate) fn find<F: Folder, D: Disks, G: Ledger>(
     requires { IsIn (D.out disks.old) (file_in (book_command_in job)) }
     ensures told { Finds (F.file folder.old) (book_command_in job.entry) (F.folder_faults folder.old) (F.folder_faults folder.new) (D.stored disks.old) (D.stored disks.new) result }
     ensures taken_back { IsIn (D.out disks.new) (file_in (book_command_in job.entry)) }
-    ensures others { KeepsOthers (file_in (book_command_in job.entry)) (D.stored disks.old) (D.out disks.old) (D.stored disks.new) (D.out disks.new) }
+    ensures others { KeepsNames (λ name. IsChangedOn (book_command_in job.entry) name → ⊥) (D.stored disks.old) (D.out disks.old) (D.stored disks.new) (D.out disks.new) }
+    ensures none_made { (name : List ℕ) → (IsMadeOn (book_command_in job.entry) name → ⊥) → is_there (D.stored disks.new) name ≡ is_there (D.stored disks.old) name }
     ensures stays { D.faultless disks.old → D.faultless disks.new }
     ensures never { D.faultless disks.old → IsErrOf result Trouble.DiskFailed → ⊥ }
+    ensures unused { D.faultless disks.old → IsErrOf result Trouble.DiskInUse → ⊥ }
     ensures cause { TellsFault (IsErrOf result Trouble.FileFailed) (F.folder_faults folder.old) (F.folder_faults folder.new) }
     ensures no_read { IfErr result (λ trouble. trouble ≢ Trouble.ReadFault) }
     ensures no_write { IfErr result (λ trouble. trouble ≢ Trouble.WriteFault) }

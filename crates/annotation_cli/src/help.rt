@@ -44,7 +44,8 @@ BOOK, OLD and NEW are files of projects. Each other file is only read. --version
       annotate columns-in news.conf rome.txt rome.tsv
 
 Status 0: done. 1: a fault of an .ann file, or of the configuration beside it. 2: no command.
-3: a file at fault, or the project refuses. 4, 5, 6: a device failed. 7: no memory.
+3: a file at fault, or the project refuses. 4, 5, 6: a device failed, or (4) another process has
+the project: only export, columns-out, agree, scores, curated and OLD work beside a server. 7: no memory.
 docs/getting-started.md is a first project; docs/operating.md says what each line of complaint means.
 ";
 

@@ -1,7 +1,7 @@
 //! What the program `annotate` does: the words of a command, the files that they name, and the console.
 //!
 //! [`run_alone`](run::run_alone) is the top call. It is generic over what it reaches, a [`World`] of a folder, a console, a sink for
-//! complaints and disks by name, so that its contract speaks of their bytes. The program gives it the real
+//! complaints, disks by name and doors, so that its contract speaks of their bytes. The program gives it the real
 //! world; a world in memory, with a [`MemoryFolder`], shows what a run does with given bytes:
 //!
 //! ```text
@@ -10,6 +10,7 @@
 //!     console: MemoryLink::new(alloc, input, Vec::new(alloc), Vec::new(alloc)),
 //!     complaint: MemorySink::new(alloc, Vec::new(alloc)),
 //!     disks: MemoryDisks::new(alloc, Vec::new(alloc), Vec::new(alloc)),
+//!     doors: (), // no command here asks for a door; `serve` stands in `annotation_program`
 //! };
 //! let status = run_alone(alloc, &words, &mut world);
 //! ```

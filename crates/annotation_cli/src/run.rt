@@ -47,6 +47,7 @@ fn perform<F: Folder, C: Link, D: Disks, G: Ledger>(
     ensures others { KeepsBut (option_map command_in job.entry) (D.stored disks.old) (D.out disks.old) (D.stored disks.new) (D.out disks.new) }
     ensures stays { D.faultless disks.old → D.faultless disks.new }
     ensures never { D.faultless disks.old → IsErrOf result Trouble.DiskFailed → ⊥ }
+    ensures unused { D.faultless disks.old → IsErrOf result Trouble.DiskInUse → ⊥ }
     ensures folder { TellsFault (IsErrOf result Trouble.FileFailed) (F.folder_faults folder.old) (F.folder_faults folder.new) }
     ensures read { TellsFault (IsErrOf result Trouble.ReadFault) (C.read_faults console.old) (C.read_faults console.new) }
     ensures write { TellsFault (IsErrOf result Trouble.WriteFault) (C.write_faults console.old) (C.write_faults console.new) }
@@ -107,6 +108,7 @@ fn perform_counted<F: Folder, C: Link, D: Disks, G: Ledger>(
     ensures others { KeepsBut (option_map command_in job.entry) (D.stored disks.old) (D.out disks.old) (D.stored disks.new) (D.out disks.new) }
     ensures stays { D.faultless disks.old → D.faultless disks.new }
     ensures never { D.faultless disks.old → IsErrOf result Trouble.DiskFailed → ⊥ }
+    ensures unused { D.faultless disks.old → IsErrOf result Trouble.DiskInUse → ⊥ }
     ensures folder { TellsFault (IsErrOf result Trouble.FileFailed) (F.folder_faults folder.old) (F.folder_faults folder.new) }
     ensures read { TellsFault (IsErrOf result Trouble.ReadFault) (C.read_faults console.old) (C.read_faults console.new) }
     ensures write { TellsFault (IsErrOf result Trouble.WriteFault) (C.write_faults console.old) (C.write_faults console.new) }
@@ -153,21 +155,23 @@ fn looks_for_faults(job: &Option<Job<'_>>) -> bool
 /// | 1 | `verify` met a fault of the configuration or the .ann file, or `import` one of the .ann file |
 /// | 2 | the words are no command |
 /// | 3 | a file is absent, too long or at fault, or the project refuses what is asked, or the session ended by a stop of its messages or after 1,000,000 answers |
-/// | 4, 5, 6 | a fault of the folder or of a disk, of reading the console, of writing it or the complaint sink |
+/// | 4, 5, 6 | a fault of the folder or of a disk, or another process has the file of a project; of reading the console; of writing it or the complaint sink |
 /// | 7 | want of memory |
 ///
 /// At every status but 0 the complaint sink has one line that names the cause; where a write of it fails,
-/// the status is 6, and the sink has a front of the line. No disk may be out.
-pub fn run_alone<F: Folder, C: Link, P: Sink, D: Disks>(
+/// the status is 6, and the sink has a front of the line. No disk may be out. Commands that only print read the file of a project as
+/// it stands; `found`, `found-at` and `compact` alone make a file. No command asks for a door, of whatever type the doors are.
+pub fn run_alone<F: Folder, C: Link, P: Sink, D: Disks, O>(
     alloc: Global,
     words: &[String],
-    world: &mut World<F, C, P, D>,
+    world: &mut World<F, C, P, D, O>,
 ) -> u8
     requires free { (name : List ℕ) → IsIn (D.out world.old.disks) name }
     ensures told { Runs (F.file world.old.folder) (map string_bytes words.now) (D.faultless world.old.disks)
         (record { folder_faults = F.folder_faults world.old.folder; left = C.left world.old.console; held = C.held world.old.console; stored = D.stored world.old.disks })
         (record { folder_faults = F.folder_faults world.new.folder; left = C.left world.new.console; held = C.held world.new.console; stored = D.stored world.new.disks })
         (P.held world.old.complaint) (P.held world.new.complaint) (P.write_faults world.old.complaint) (P.write_faults world.new.complaint) result }
+    ensures apart { world.new.doors ≡ world.old.doors }
     ensures words { result ≡ 2 → command_of (map string_bytes words.now) ≡ None }
     ensures free { (name : List ℕ) → IsIn (D.out world.new.disks) name }
     ensures others { KeepsBut (command_of (map string_bytes words.now)) (D.stored world.old.disks) (D.out world.old.disks) (D.stored world.new.disks) (D.out world.new.disks) }

@@ -2,6 +2,7 @@
 use crate::cases::Section;
 use crate::headers::Form;
 use crate::malformed::{Flaw, Malformed};
+use crate::records::journal;
 use mark_base::Memory;
 use std::alloc::{AllocError, AllocFailed, Global};
 use std::mem;
@@ -107,7 +108,7 @@ impl<T: Drop> From<AllocFailed<T>> for Refused {
 }
 
 /// The value of a hexadecimal digit.
-fn hex_digit(byte: u8) -> Option<u8> {
+pub fn hex_digit(byte: u8) -> Option<u8> {
     match byte {
         b'0'..=b'9' => Some(byte - b'0'),
         b'a'..=b'f' => Some(byte - b'a' + 10),
@@ -380,5 +381,6 @@ pub fn content_in(
         Form::Lines => Ok(plain(alloc, section.lines.as_slice(), false)?),
         Form::Joined => Ok(plain(alloc, section.lines.as_slice(), true)?),
         Form::Escaped => read_escaped(alloc, section, turn),
+        Form::Records { version } => journal(alloc, section, version),
     }
 }

@@ -9,6 +9,8 @@ pub enum Form {
     Joined,
     /// The lines with nothing between them, and with escapes.
     Escaped,
+    /// Each line is an entry in hexadecimal digits, and all of them are a journal of this version.
+    Records { version: u32 },
 }
 
 /// A device of the world whose calls can fail by number.
@@ -91,6 +93,11 @@ pub enum Header<'f> {
         done: bool,
         numbers: &'f str,
     },
+    /// Each call of the disk of a file fails in a run of its own, of as many as the run makes.
+    EachFails {
+        name: &'f str,
+        calls: u64,
+    },
     /// What the file of a project has to hold when the run is over.
     Stored {
         name: &'f str,
@@ -120,6 +127,7 @@ pub enum Called<'f> {
     Status,
     Fails(Device),
     DiskFails { name: &'f str, done: bool },
+    EachFails,
     Look,
     Whole,
     Ask,
@@ -138,6 +146,7 @@ impl<'f> Header<'f> {
             Header::Status { .. } => Called::Status,
             Header::Fails { device, .. } => Called::Fails(*device),
             Header::DiskFails { name, done, .. } => Called::DiskFails { name, done: *done },
+            Header::EachFails { .. } => Called::EachFails,
             Header::Stored { .. } | Header::Then { .. } => Called::Look,
             Header::Whole => Called::Whole,
             Header::Ask(_) => Called::Ask,
@@ -149,7 +158,11 @@ impl<'f> Header<'f> {
     pub fn takes_lines(&self) -> bool {
         !matches!(
             self,
-            Header::Status { .. } | Header::Fails { .. } | Header::DiskFails { .. } | Header::Whole
+            Header::Status { .. }
+                | Header::Fails { .. }
+                | Header::DiskFails { .. }
+                | Header::EachFails { .. }
+                | Header::Whole
         )
     }
 
@@ -186,6 +199,16 @@ fn form_of(rest: &str) -> Option<Form> {
         "" => Some(Form::Lines),
         "escaped" => Some(Form::Escaped),
         _ => None,
+    }
+}
+
+/// The form that the words behind the name of a project's file say.
+fn file_form_of(rest: &str) -> Option<Form> {
+    match rest.strip_prefix("records ") {
+        Some(version) => Some(Form::Records {
+            version: version.parse::<u32>().ok()?,
+        }),
+        None => form_of(rest),
     }
 }
 
@@ -375,9 +398,22 @@ pub fn read_calls(text: &str) -> Option<Calls> {
     }
 }
 
-/// Reads `NAME [done] N[ N..]`, in which `N-M` may stand for N; the numbers are read again when they are used.
+/// Reads what stands behind `NAME each`, the number of calls: 4,096 at most.
+fn read_each_fails<'f>(name: &'f str, calls: &str) -> Option<Header<'f>> {
+    let calls = calls.parse::<u64>().ok()?;
+    if name.is_empty() || calls > MOST_CALLS {
+        return None;
+    }
+    Some(Header::EachFails { name, calls })
+}
+
+/// Reads `NAME each N`, or `NAME [done] N[ N..]`, in which `N-M` may stand for N; the numbers are read again when they are used.
 fn read_disk_fails(rest: &str) -> Option<Header<'_>> {
     let (name, rest) = split_word(rest);
+    let (each, calls) = take_word(rest, "each");
+    if each {
+        return read_each_fails(name, calls);
+    }
     let (done, numbers) = take_word(rest, "done");
     if name.is_empty() || !numbers.split(' ').all(|calls| read_calls(calls).is_some()) {
         return None;
@@ -396,10 +432,10 @@ struct Named<'f> {
     form: Form,
 }
 
-/// Reads `NAME [escaped]`.
+/// Reads `NAME [escaped|records VERSION]`.
 fn read_named(rest: &str) -> Option<Named<'_>> {
     let (name, rest) = split_word(rest);
-    let form = form_of(rest)?;
+    let form = file_form_of(rest)?;
     if name.is_empty() {
         None
     } else {

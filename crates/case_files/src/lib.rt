@@ -19,16 +19,19 @@
 
 mod cases;
 mod compare;
+mod each_call;
 mod escapes;
 mod headers;
 mod looks;
 mod malformed;
 mod messages;
 mod prepared;
+mod records;
 mod runs;
 
 pub use crate::cases::{CaseFile, Section, Written, read_cases};
 pub use crate::compare::{Differences, bytes_differ, differences_of};
+pub use crate::each_call::EachCall;
 pub use crate::headers::{Answer, Ask, Device, Form, Header};
 pub use crate::looks::{Look, Seen};
 pub use crate::malformed::{Flaw, Malformed};

@@ -19,6 +19,8 @@ pub enum Flaw {
     Twice,
     /// A backslash that begins no escape, or an escape that does not end.
     BadEscape,
+    /// A line among entries that is not of hexadecimal digits in pairs.
+    BadEntry,
     /// A case without words.
     NoWords,
     /// A case with messages and with raw bytes beside them.
@@ -34,6 +36,7 @@ impl fmt::Display for Flaw {
             Flaw::BadHeader => "the header of the section has no form",
             Flaw::Twice => "the words or a section of this name stand a second time",
             Flaw::BadEscape => "a backslash begins no escape, or an escape does not end",
+            Flaw::BadEntry => "the line is no entry in hexadecimal digits",
             Flaw::NoWords => "the case has no words",
             Flaw::BothForms => "the case has `ask` or `answer` and also `input` or `console`",
         };

@@ -6,7 +6,7 @@ use crate::malformed::Malformed;
 use std::alloc::Global;
 
 /// The place that answers speak of where none is given.
-const FIRST_PLACE: u64 = 3;
+pub const FIRST_PLACE: u64 = 3;
 
 /// The line that asks to close, or says that the connection is closed.
 fn closing(close: bool) -> &'static str {
@@ -42,7 +42,7 @@ fn push_ask(
 }
 
 /// Appends the bytes of an answer that speaks of this place, in a turn where it comes several times.
-fn push_answer(
+pub fn push_answer(
     alloc: Global,
     console: &mut Vec<u8>,
     answer: Answer,
@@ -64,7 +64,7 @@ fn push_answer(
 }
 
 /// Appends the bytes of a request, as often as it comes.
-fn push_asks(
+pub fn push_asks(
     alloc: Global,
     input: &mut Vec<u8>,
     ask: Ask<'_>,

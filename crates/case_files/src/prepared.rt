@@ -1,5 +1,6 @@
 //! A case with its bytes: the world of its run, and what the run has to leave.
 use crate::cases::{Section, Written, find_section};
+use crate::each_call::EachCall;
 use crate::escapes::content;
 use crate::headers::{Called, Device, Form, Header};
 use crate::looks::{Look, looks_of};
@@ -57,6 +58,8 @@ pub struct Prepared {
     /// Whether the input comes in one piece only.
     pub whole: bool,
     pub fails: Fails,
+    /// The disk whose calls fail in turn, each in a run of its own behind this one.
+    pub each: Option<EachCall>,
     pub expected: Left,
     /// What is looked at when its run is over, in turn.
     pub looks: Vec<Look>,
@@ -237,6 +240,23 @@ fn all_fails<'f>(alloc: Global, case: &Written<'f>, common: &Written<'f>) -> Res
     })
 }
 
+/// The disk whose calls fail in turn, with the messages of the case.
+fn each_of<'f>(
+    alloc: Global,
+    case: &Written<'f>,
+    common: &Written<'f>,
+) -> Result<Option<EachCall>, Malformed> {
+    let Some(section) = section_of(case, common, Called::EachFails) else {
+        return Ok(None);
+    };
+    let Header::EachFails { name, calls } = section.header else {
+        return Ok(None);
+    };
+    let asks = sections_of(case, common, Called::Ask);
+    let answers = sections_of(case, common, Called::Answer);
+    Ok(Some(EachCall::of(alloc, name, calls, asks, answers)?))
+}
+
 /// The status that a case wants.
 fn status_of<'f>(case: &Written<'f>, common: &Written<'f>) -> u8 {
     match section_of(case, common, Called::Status) {
@@ -301,6 +321,7 @@ pub fn prepare<'f>(
     push_disks(alloc, &mut disks, common.sections.as_slice())?;
     let (input, console) = streams_of(alloc, case, common)?;
     let fails = all_fails(alloc, case, common)?;
+    let each = each_of(alloc, case, common)?;
     let expected = Left {
         status: status_of(case, common),
         console,
@@ -317,6 +338,7 @@ pub fn prepare<'f>(
         input,
         whole,
         fails,
+        each,
         expected,
         looks,
     })

@@ -176,9 +176,25 @@ abbrev pub NamesTwo : Option Command → Type 0
 NamesTwo (Some (Compact book made)) = book ≢ made
 NamesTwo other = ⊤
 
--- a file on whose disk the words' command works
-abbrev pub IsFileIn : Option Command → List ℕ → Type 0
-IsFileIn (Some (Session book)) name = name ≡ book
-IsFileIn (Some (Compact book made)) name = (name ≡ book) ⊎ (name ≡ made)
-IsFileIn (Some (OnBook it)) name = name ≡ file_in it
-IsFileIn other name = ⊥
+-- a file that a command on a project may change; the others are only read
+abbrev pub IsChangedOn : BookCommand → List ℕ → Type 0
+IsChangedOn (Found book conf roster level) name = name ≡ book
+IsChangedOn (Add book caller named text) name = name ≡ book
+IsChangedOn (Import book who named ann) name = name ≡ book
+IsChangedOn (Export book who named) name = ⊥
+IsChangedOn (ColumnsOut book who named) name = ⊥
+IsChangedOn (Agree book) name = ⊥
+IsChangedOn (Scores book) name = ⊥
+IsChangedOn (Curated book number) name = ⊥
+
+-- a file on a disk that the words' command may change
+abbrev pub IsChangedBy : Option Command → List ℕ → Type 0
+IsChangedBy (Some (Session book)) name = name ≡ book
+IsChangedBy (Some (Compact book made)) name = name ≡ made
+IsChangedBy (Some (OnBook it)) name = IsChangedOn it name
+IsChangedBy other name = ⊥
+
+-- a file that a command on a project makes where there is none
+abbrev pub IsMadeOn : BookCommand → List ℕ → Type 0
+IsMadeOn (Found book conf roster level) name = name ≡ book
+IsMadeOn other name = ⊥

@@ -6,15 +6,18 @@
 #![tactic(auto)]
 
 mod case_folder;
+mod each_call;
+mod report;
 mod worlds;
 
-use crate::worlds::{Outcome, run_in_pieces, run_whole};
+use crate::each_call::run_each;
+use crate::report::print_outcome;
+use crate::worlds::{run_in_pieces, run_whole};
 use anyhow::{Context, Result};
-use case_files::{
-    CaseFile, Differences, Flaw, Look, Malformed, Prepared, Seen, Written, bytes_differ,
-    differences_of, prepare, read_cases,
-};
+use case_files::{CaseFile, Flaw, Malformed, Written, prepare, read_cases};
 use std::process::ExitCode;
+use std::sync::Wait;
+use std::thread::Threads;
 use std::{env, fs, str};
 
 /// How many cases passed, and how many failed.
@@ -35,79 +38,11 @@ impl Tally {
     }
 }
 
-/// Prints what differs, a line for each thing that does, and says whether nothing does.
-fn print_all(
+/// Runs a case, prints what differs, and says whether it passed: as it stands, where it says so with each call of a disk
+/// failing in turn, and in pieces. Where calls fail by their number, or the case says so, the run in pieces is left out.
+fn run_case<'f, R: Threads + Wait + Sync>(
     rt: &HostRuntime,
-    file: &str,
-    case: &str,
-    how: &str,
-    told: &Differences,
-) -> Result<bool> {
-    let mut passed = true;
-    for text in [&told.status, &told.console, &told.complaint] {
-        if let Some(text) = text {
-            println!(rt; "{file}: {case}: {how}{text}")?;
-            passed = false;
-        }
-    }
-    Ok(passed)
-}
-
-/// Prints what differs in what was found behind a run, and says whether nothing does.
-fn print_look(
-    rt: &HostRuntime,
-    file: &str,
-    case: &str,
-    how: &str,
-    look: &Look,
-    seen: &Seen,
-) -> Result<bool> {
-    match (look, seen) {
-        (Look::File { name, expected }, Seen::File(found)) => {
-            let text = bytes_differ(rt.alloc(), name.as_str(), expected, found)?;
-            if let Some(text) = text {
-                println!(rt; "{file}: {case}: {how}the file {text}")?;
-                return Ok(false);
-            }
-            Ok(true)
-        }
-        (Look::Run { text, expected, .. }, Seen::Run(left)) => {
-            let how = format!(in rt.alloc(); "{how}then `{text}`: ")?;
-            let told = differences_of(rt.alloc(), expected, left)?;
-            print_all(rt, file, case, how.as_str(), &told)
-        }
-        _ => Ok(false),
-    }
-}
-
-/// Prints what differs in a run and behind it, and says whether nothing does. A run before it that did not do its job leaves
-/// nothing to look at, and that differs too.
-fn print_outcome(
-    rt: &HostRuntime,
-    file: &str,
-    case: &str,
-    how: &str,
-    prepared: &Prepared,
-    outcome: &Outcome,
-) -> Result<bool> {
-    let told = differences_of(rt.alloc(), &prepared.expected, &outcome.left)?;
-    let mut passed = print_all(rt, file, case, how, &told)?;
-    if prepared.looks.len() != outcome.seen.len() {
-        println!(rt; "{file}: {case}: {how}nothing was looked at")?;
-        return Ok(false);
-    }
-    for (look, seen) in prepared.looks.iter().zip(outcome.seen.iter()) {
-        if !print_look(rt, file, case, how, look, seen)? {
-            passed = false;
-        }
-    }
-    Ok(passed)
-}
-
-/// Runs a case, prints what differs, and says whether it passed. Where calls fail by their number, or the
-/// case says so, the run in pieces is left out.
-fn run_case<'f>(
-    rt: &HostRuntime,
+    threads: &R,
     file: &str,
     case: &Written<'f>,
     common: &Written<'f>,
@@ -120,20 +55,31 @@ fn run_case<'f>(
             return Ok(false);
         }
     };
-    let outcome = run_whole(rt.alloc(), &prepared)?;
+    let outcome = run_whole(threads, rt.alloc(), &prepared)?;
     if !print_outcome(rt, file, name, "", &prepared, &outcome)? {
         return Ok(false);
+    }
+    if let Some(each) = &prepared.each {
+        if !run_each(rt, threads, file, name, &prepared, each)? {
+            return Ok(false);
+        }
     }
     if prepared.whole {
         return Ok(true);
     }
-    let outcome = run_in_pieces(rt.alloc(), &prepared)?;
+    let outcome = run_in_pieces(threads, rt.alloc(), &prepared)?;
     let how = "in pieces of one byte: ";
     print_outcome(rt, file, name, how, &prepared, &outcome)
 }
 
 /// Runs the cases of a file.
-fn run_cases(rt: &HostRuntime, file: &str, cases: &CaseFile<'_>, tally: &mut Tally) -> Result<()> {
+fn run_cases<R: Threads + Wait + Sync>(
+    rt: &HostRuntime,
+    threads: &R,
+    file: &str,
+    cases: &CaseFile<'_>,
+    tally: &mut Tally,
+) -> Result<()> {
     let title = cases.title;
     let count = cases.cases.len();
     println!(rt; "{file}: {count} cases: {title}")?;
@@ -143,7 +89,7 @@ fn run_cases(rt: &HostRuntime, file: &str, cases: &CaseFile<'_>, tally: &mut Tal
         return Ok(());
     }
     for case in &cases.cases {
-        let passed = run_case(rt, file, case, &cases.common)?;
+        let passed = run_case(rt, threads, file, case, &cases.common)?;
         tally.count(passed);
     }
     Ok(())
@@ -160,12 +106,17 @@ fn bad_line(bytes: &[u8], valid: usize) -> usize {
 }
 
 /// Runs the cases of the file of a name.
-fn run_file(rt: &HostRuntime, file: &str, tally: &mut Tally) -> Result<()> {
+fn run_file<R: Threads + Wait + Sync>(
+    rt: &HostRuntime,
+    threads: &R,
+    file: &str,
+    tally: &mut Tally,
+) -> Result<()> {
     let bytes = fs::read(rt, file).context("the file cannot be read")?;
     match str::from_utf8(bytes.as_slice()) {
         Ok(text) => {
             let cases = read_cases(rt.alloc(), text)?;
-            run_cases(rt, file, &cases, tally)
+            run_cases(rt, threads, file, &cases, tally)
         }
         Err(error) => {
             let malformed = Malformed::At {
@@ -180,13 +131,13 @@ fn run_file(rt: &HostRuntime, file: &str, tally: &mut Tally) -> Result<()> {
 }
 
 /// Runs the cases of all files that the words name, and says how many passed.
-fn run_files(rt: &HostRuntime) -> Result<Tally> {
+fn run_files<R: Threads + Wait + Sync>(rt: &HostRuntime, threads: &R) -> Result<Tally> {
     let mut tally = Tally {
         passed: 0,
         failed: 0,
     };
     for file in env::args(rt)?.skip(1) {
-        if let Err(error) = run_file(rt, file.as_str(), &mut tally) {
+        if let Err(error) = run_file(rt, threads, file.as_str(), &mut tally) {
             println!(rt; "{file}: {error}")?;
             tally.count(false);
         }
@@ -195,7 +146,7 @@ fn run_files(rt: &HostRuntime) -> Result<Tally> {
 }
 
 fn main(rt: HostRuntime) -> Result<ExitCode> {
-    let tally = run_files(&rt)?;
+    let tally = run_files(&rt, &rt)?;
     let Tally { passed, failed } = tally;
     println!(rt; "{passed} passed, {failed} failed")?;
     let status = if failed == 0 { 0 } else { 1 };

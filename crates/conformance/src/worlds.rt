@@ -3,13 +3,15 @@ ghost use Rattle.std.specs.Prelude.{ℕ, List, IfOk};
 ghost use Rattle.named_disks.specs.NamedDisks.{IsIn};
 
 use crate::case_folder::CaseFolder;
-use annotation_cli::World;
-use annotation_cli::run::run_alone;
+use annotation_program::{World, run};
 use case_files::{FailingDisk, Left, Look, Malformed, Prepared, Run, Seen};
 use mark_base::{Bytes, Memory, MemoryLink, MemorySink, Text};
 use named_disks::{Disks, MemoryDisks};
-use project_journal::MemoryDisk;
+use project_journal::{DiskFail, MemoryDisk};
+use serve_command::{MemoryDoor, MemoryDoors};
 use std::alloc::Global;
+use std::sync::Wait;
+use std::thread::Threads;
 
 /// How many bytes of an input come one by one at most; the rest comes as there is room for it.
 const MOST_PIECES: usize = 65_536;
@@ -21,17 +23,18 @@ pub struct Outcome {
     pub seen: Vec<Seen>,
 }
 
-/// A world in memory between two runs: no disk is out.
+/// A world in memory between two runs: no disk is out. No door is handed out for a port.
 #[derive(Drop)]
 struct Site {
-    world: World<CaseFolder, MemoryLink, MemorySink, MemoryDisks>,
+    world: World<CaseFolder, MemoryLink, MemorySink, MemoryDisks, MemoryDoors<MemoryDoor>>,
     ghost free: { (name : List ℕ) → IsIn (⟦<MemoryDisks as Disks>⟧.out world.disks) name },
 }
 
 impl Site {
     /// Runs words with this console and this sink for complaints, and gives the status.
-    fn run(
+    fn run<R: Threads + Wait + Sync>(
         &mut self,
+        rt: &R,
         alloc: Global,
         words: &[String],
         console: MemoryLink,
@@ -39,7 +42,7 @@ impl Site {
     ) -> u8 {
         self.world.console = console;
         self.world.complaint = complaint;
-        run_alone(alloc, words, &mut self.world)
+        run(rt, alloc, words, &mut self.world)
     }
 
     /// What the last run left.
@@ -52,8 +55,9 @@ impl Site {
     }
 
     /// Makes a run whose console and sink do not fail, and tells what it left.
-    fn run_beside(
+    fn run_beside<R: Threads + Wait + Sync>(
         &mut self,
+        rt: &R,
         alloc: Global,
         files: &[(Text, Bytes)],
         run: &Run,
@@ -61,7 +65,7 @@ impl Site {
         let input = input_of(alloc, files, run)?;
         let console = console_of(alloc, input);
         let complaint = MemorySink::new(alloc, Vec::new(alloc));
-        let status = self.run(alloc, run.words.as_slice(), console, complaint);
+        let status = self.run(rt, alloc, run.words.as_slice(), console, complaint);
         self.left(alloc, status)
     }
 
@@ -186,6 +190,7 @@ fn site_of(alloc: Global, case: &Prepared) -> Result<Site, Memory> {
         console: console_of(alloc, Bytes::from_vec(Vec::new(alloc))),
         complaint: MemorySink::new(alloc, Vec::new(alloc)),
         disks: disks_of(alloc, case.disks.as_slice())?,
+        doors: MemoryDoors::new(Vec::new(alloc), Vec::new(alloc)),
     };
     Ok(Site { world })
 }
@@ -203,9 +208,14 @@ fn input_of(alloc: Global, files: &[(Text, Bytes)], run: &Run) -> Result<Bytes, 
 }
 
 /// Makes the runs before that of a case, and tells what the first leaves whose status is not 0.
-fn run_firsts(alloc: Global, case: &Prepared, site: &mut Site) -> Result<Option<Left>, Memory> {
+fn run_firsts<R: Threads + Wait + Sync>(
+    rt: &R,
+    alloc: Global,
+    case: &Prepared,
+    site: &mut Site,
+) -> Result<Option<Left>, Memory> {
     for first in &case.firsts {
-        let left = site.run_beside(alloc, case.files.as_slice(), first)?;
+        let left = site.run_beside(rt, alloc, case.files.as_slice(), first)?;
         if left.status != 0 {
             return Ok(Some(left));
         }
@@ -215,7 +225,12 @@ fn run_firsts(alloc: Global, case: &Prepared, site: &mut Site) -> Result<Option<
 
 /// Looks at what the run of a case left. A run that is made for this meets no device that fails, and leaves what it leaves
 /// to the looks behind it.
-fn looked(alloc: Global, case: &Prepared, site: &mut Site) -> Result<Vec<Seen>, Memory> {
+fn looked<R: Threads + Wait + Sync>(
+    rt: &R,
+    alloc: Global,
+    case: &Prepared,
+    site: &mut Site,
+) -> Result<Vec<Seen>, Memory> {
     let disks = disks_again(alloc, case, &site.world.disks, Vec::new(alloc), &[])?;
     let none = Vec::new(alloc);
     site.renew(alloc, case.files.as_slice(), none, Vec::new(alloc), disks)?;
@@ -227,7 +242,7 @@ fn looked(alloc: Global, case: &Prepared, site: &mut Site) -> Result<Vec<Seen>, 
                 seen.push(Seen::File(Vec::from_slice(alloc, bytes)?))?;
             }
             Look::Run { run, .. } => {
-                let left = site.run_beside(alloc, case.files.as_slice(), run)?;
+                let left = site.run_beside(rt, alloc, case.files.as_slice(), run)?;
                 seen.push(Seen::Run(left))?;
             }
         }
@@ -237,47 +252,75 @@ fn looked(alloc: Global, case: &Prepared, site: &mut Site) -> Result<Vec<Seen>, 
 
 /// Runs the words of a case behind the runs before it, and tells what the run leaves and what is found then, or what a run
 /// before left that did not do its job.
-fn run_over(
+fn run_over<R: Threads + Wait + Sync>(
+    rt: &R,
     alloc: Global,
     case: &Prepared,
     console: MemoryLink,
     complaint: MemorySink,
+    failing: &[FailingDisk],
 ) -> Result<Outcome, Malformed> {
     let mut site = site_of(alloc, case)?;
-    if let Some(left) = run_firsts(alloc, case, &mut site)? {
+    if let Some(left) = run_firsts(rt, alloc, case, &mut site)? {
         return Ok(Outcome {
             left,
             seen: Vec::new(alloc),
         });
     }
     let fails = case.fails.disks.clone()?;
-    let failing = case.fails.failing.as_slice();
     let disks = disks_again(alloc, case, &site.world.disks, fails, failing)?;
     let wants = case.fails.memory.clone()?;
     let folder_fails = case.fails.folder.clone()?;
     site.renew(alloc, case.files.as_slice(), wants, folder_fails, disks)?;
-    let status = site.run(alloc, case.words.as_slice(), console, complaint);
+    let status = site.run(rt, alloc, case.words.as_slice(), console, complaint);
     let left = site.left(alloc, status)?;
-    let seen = looked(alloc, case, &mut site)?;
+    let seen = looked(rt, alloc, case, &mut site)?;
     Ok(Outcome { left, seen })
 }
 
 /// Runs a case with its input in one piece.
-pub fn run_whole(alloc: Global, case: &Prepared) -> Result<Outcome, Malformed> {
+pub fn run_whole<R: Threads + Wait + Sync>(
+    rt: &R,
+    alloc: Global,
+    case: &Prepared,
+) -> Result<Outcome, Malformed> {
     let input = Bytes::of(alloc, case.input.as_slice())?;
     let reads = case.fails.read.clone()?;
     let writes = case.fails.write.clone()?;
     let console = MemoryLink::new(alloc, input, reads, writes);
     let complaint = MemorySink::new(alloc, case.fails.complaint.clone()?);
-    run_over(alloc, case, console, complaint)
+    let failing = case.fails.failing.as_slice();
+    run_over(rt, alloc, case, console, complaint, failing)
 }
 
 /// Runs a case with its input in pieces of one byte.
-pub fn run_in_pieces(alloc: Global, case: &Prepared) -> Result<Outcome, Malformed> {
+pub fn run_in_pieces<R: Threads + Wait + Sync>(
+    rt: &R,
+    alloc: Global,
+    case: &Prepared,
+) -> Result<Outcome, Malformed> {
     let count = case.input.len().min(MOST_PIECES);
     let sizes = vec![in alloc; 1usize; count]?;
     let input = Bytes::of(alloc, case.input.as_slice())?;
     let console = MemoryLink::cut_into(alloc, input, sizes);
     let complaint = MemorySink::new(alloc, Vec::new(alloc));
-    run_over(alloc, case, console, complaint)
+    run_over(rt, alloc, case, console, complaint, &[])
+}
+
+/// Runs a case with another input, in one piece, where a call of the disk of a file fails.
+pub fn run_failing<R: Threads + Wait + Sync>(
+    rt: &R,
+    alloc: Global,
+    case: &Prepared,
+    input: &[u8],
+    name: &str,
+    fail: DiskFail,
+) -> Result<Outcome, Malformed> {
+    let console = console_of(alloc, Bytes::of(alloc, input)?);
+    let complaint = MemorySink::new(alloc, Vec::new(alloc));
+    let disk = FailingDisk {
+        name: String::from_str(alloc, name)?,
+        fails: vec![in alloc; fail]?,
+    };
+    run_over(rt, alloc, case, console, complaint, &[disk])
 }

@@ -14,14 +14,14 @@ use Rattle.http_wire.specs.declared.answer.Answer.{Answer}
 use Rattle.http_wire.specs.declared.message.Message.{Message}
 use Rattle.http_wire.specs.declared.stop.Stop.{Stop}
 use Rattle.http_wire.specs.declared.stop.Stop.TheVariants as stop
-use Rattle.http_wire.specs.Answers.{answer_bytes_of, status_line}
+use Rattle.http_wire.specs.Answers.{answer_bytes_of, answer_bytes_to, answer_head_of, status_line}
 use Rattle.std.proofs.lemmas.Bool.Decides.{nat_tests}
 use Rattle.std.proofs.lemmas.Fmt.{decimal_digit, decimal_step}
 use Rattle.http_wire.specs.Messages.{Messages, StopsWith}
 use Rattle.project_machine.specs.Asking.{Visiting}
 use Rattle.annotation_http.specs.Exchanges.Connections.{Bare, Connection}
 use Rattle.annotation_http.specs.Connection.Steps.{Given, Serving}
-use Rattle.annotation_http.specs.Connection.Session.{ConnectionTold, IfTold, Run, Served, SessionEnds, Stopped, TakesKnown, bytes_from, bytes_of}
+use Rattle.annotation_http.specs.Connection.Session.{is_bodiless, ConnectionTold, IfTold, Run, Served, SessionEnds, Stopped, TakesKnown, bytes_from, bytes_of}
 use Rattle.annotation_http.specs.Connection.Talk.{talk_ended, talk_of}
 use Rattle.annotation_http.specs.declared.connection.ending.Ending.TheVariants as ending
 use Rattle.demo_project.specs.Sessions.{HasMessages, ServesAll, says_unable}
@@ -48,17 +48,19 @@ line_said : (rest : List ℕ) → says_unable (status_line 503 ++ rest) ≡ true
 unfolding status_line
 line_said rest = rw decimal_503 refl
 
-answer_said : (answer : Answer) (place : ℕ) (last : Bool) (rest : List ℕ) → answer.status ≡ 503 → says_unable (answer_bytes_of answer place last ++ rest) ≡ true
-unfolding answer_bytes_of
-answer_said answer place closes rest is =
+answer_said : (bodiless : Bool) (answer : Answer) (place : ℕ) (last : Bool) (rest : List ℕ) → answer.status ≡ 503 → says_unable (answer_bytes_to bodiless answer place last ++ rest) ≡ true
+unfolding answer_bytes_of answer_head_of
+answer_said true answer place closes rest is =
+    rw is (simp append_assoc (line_said _))
+answer_said false answer place closes rest is =
     rw is (simp append_assoc (line_said _))
 
 status_is : (status : ℕ) → (status == 503) ≡ true → status ≡ 503
 status_is status is = grind (arith, nat_tests, is)
 
-able_here : (answer : Answer) (place : ℕ) (last : Bool) (rest : List ℕ) (b : Bool) → (answer.status == 503) ≡ b → says_unable (answer_bytes_of answer place last ++ rest) ≡ false → b ≡ false
-able_here answer place closes rest true is h = sym (answer_said answer place closes rest (status_is answer.status is)) ∙ h
-able_here answer place closes rest false is h = refl
+able_here : (bodiless : Bool) (answer : Answer) (place : ℕ) (last : Bool) (rest : List ℕ) (b : Bool) → (answer.status == 503) ≡ b → says_unable (answer_bytes_to bodiless answer place last ++ rest) ≡ false → b ≡ false
+able_here bodiless answer place closes rest true is h = sym (answer_said bodiless answer place closes rest (status_is answer.status is)) ∙ h
+able_here bodiless answer place closes rest false is h = refl
 
 all_able : (n : ℕ) (old new : Serving) (messages : List Message) (answers : List Given) → Run old messages answers new → says_unable (bytes_from n messages answers) ≡ false
     → list_any (λ (given : Given). given.answer.status == 503) answers ≡ false
@@ -66,7 +68,7 @@ all_able n old new [] [] run h = refl
 all_able n old new [] (given ∷ answers) run h = absurd run
 all_able n old new (message ∷ messages) [] run h = refl
 all_able n old new (message ∷ messages) (given ∷ answers) (middle, step, run) h =
-    ap (λ b. b || list_any (λ (g : Given). g.answer.status == 503) answers) (able_here given.answer given.place _ (bytes_from (n + 1) messages answers) (given.answer.status == 503) refl h)
+    ap (λ b. b || list_any (λ (g : Given). g.answer.status == 503) answers) (able_here (is_bodiless message) given.answer given.place _ (bytes_from (n + 1) messages answers) (given.answer.status == 503) refl h)
     ∙ all_able (n + 1) middle new messages answers run (behind_able (bytes_of n message given) (bytes_from (n + 1) messages answers) h)
 
 -- ---- a session to its end

@@ -39,6 +39,19 @@ answer_bytes_of answer place last =
     ++ last_lines last
     ++ answer.body
 
+-- the same without the body, as HEAD is answered (RFC 9110, section 9.3.2)
+unfoldable pub answer_head_of : Answer → ℕ → Bool → List ℕ
+answer_head_of answer place last =
+    status_line answer.status
+    ++ field_line (codes "Content-Type") (media_text answer.media)
+    ++ field_line (codes "Content-Length") (decimal (length answer.body))
+    ++ field_line (codes "Place") (decimal place)
+    ++ last_lines last
+
+-- an answer with its body, or without it
+abbrev pub answer_bytes_to : Bool → Answer → ℕ → Bool → List ℕ
+answer_bytes_to bodiless answer place last = if bodiless then answer_head_of answer place last else answer_bytes_of answer place last
+
 -- a refusal, whose body names it
 abbrev pub refusal : ℕ → List ℕ → Answer
 refusal status name = record {

@@ -1,7 +1,7 @@
 //! An answer and its bytes.
 ghost use Rattle.std.specs.Prelude.{◌≡◌, ◌++◌, IfOk, OnOk, decimal, length};
 ghost use Rattle.http.specs.StatusCode.{IsStatusCode};
-ghost use Rattle.http_wire.specs.Answers.{answer_bytes_of, field_line, last_lines, media_text, phrase_of, refusal, status_line};
+ghost use Rattle.http_wire.specs.Answers.{answer_bytes_to, field_line, last_lines, media_text, phrase_of, refusal, status_line};
 
 use http::StatusCode;
 use itoa::Buffer;
@@ -127,12 +127,18 @@ fn push_status(bytes: &mut Vec<u8>, status: u16) -> Result<(), Memory>
 
 /// The bytes of an answer: the status line, `Content-Type`, `Content-Length`, `Place`, then
 /// `Connection: close` where the answer is the last of its connection, an empty line and the body.
-/// `place` is the place of the project's history that the answer speaks of, from 1.
+/// `place` is the place of the project's history that the answer speaks of, from 1. A `bodiless` answer, as one to
+/// HEAD is, has the same lines and ends behind the empty one (RFC 9110, section 9.3.2).
 /// Cost: the bytes of the body.
-#[tactic(auto, unfolding(crate::specs::Answers::answer_bytes_of))]
-pub fn answer_bytes(alloc: Global, answer: &Answer, place: u64, last: bool) -> Result<Bytes, Memory>
+pub fn answer_bytes(
+    alloc: Global,
+    answer: &Answer,
+    place: u64,
+    last: bool,
+    bodiless: bool,
+) -> Result<Bytes, Memory>
     requires { IsStatusCode answer.now.status }
-    ensures { IfOk result (λ bytes. bytes ≡ answer_bytes_of answer.now place last) }
+    ensures { IfOk result (λ bytes. bytes ≡ answer_bytes_to bodiless answer.now place last) }
 {
     let body = answer.body.items();
     let mut bytes = Vec::new(alloc);
@@ -141,6 +147,9 @@ pub fn answer_bytes(alloc: Global, answer: &Answer, place: u64, last: bool) -> R
     push_number(&mut bytes, "Content-Length", body.len() as u64)?;
     push_number(&mut bytes, "Place", place)?;
     push_text(&mut bytes, ending(last))?;
+    if bodiless {
+        return Ok(Bytes::from_vec(bytes));
+    }
     bytes.extend_from_slice(body)?;
     Ok(Bytes::from_vec(bytes))
 }

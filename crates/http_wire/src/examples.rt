@@ -1,6 +1,6 @@
 //! The definitions of this crate on a few examples.
 ghost use Rattle.std.specs.Prelude.{◌≡◌, ◌∷◌, [], true, false, codes};
-ghost use Rattle.http_wire.specs.Answers.{answer_bytes_of, refusal, unable};
+ghost use Rattle.http_wire.specs.Answers.{answer_bytes_of, answer_bytes_to, refusal, unable};
 ghost use Rattle.http_wire.specs.Fields.{asks_to_close, body_size, first_value};
 ghost use Rattle.http_wire.specs.Messages.{path_of};
 
@@ -26,6 +26,8 @@ pub fn examples_of_fields()
 pub fn examples_of_answers()
     ensures made { answer_bytes_of (record { status = 200; media = Media.Json; body = codes "{\"made\":\"T1\"}" }) 3 false
         ≡ codes "HTTP/1.1 200 OK\r\nContent-Type: application/json\r\nContent-Length: 13\r\nPlace: 3\r\n\r\n{\"made\":\"T1\"}" }
+    ensures bodiless { answer_bytes_to true (record { status = 200; media = Media.Json; body = codes "{\"made\":\"T1\"}" }) 3 false
+        ≡ codes "HTTP/1.1 200 OK\r\nContent-Type: application/json\r\nContent-Length: 13\r\nPlace: 3\r\n\r\n" }
     ensures refused { answer_bytes_of (refusal 400 (codes "BadHead")) 3 true
         ≡ codes "HTTP/1.1 400 Bad Request\r\nContent-Type: application/json\r\nContent-Length: 21\r\nPlace: 3\r\nConnection: close\r\n\r\n{\"refused\":\"BadHead\"}" }
     ensures unable { unable 3

@@ -1,4 +1,5 @@
 pub mod PlaceLemmas
+pub mod RoomLemmas
 pub mod MarkLemmas
 pub mod ShiftLemmas
 pub mod TotalLemmas

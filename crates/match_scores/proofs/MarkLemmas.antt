@@ -46,7 +46,7 @@ module _ (old new : List ℕ) (grown : Starts old new) where
   marks_kept None None h = h
   marks_kept None (Some m) h = h
   marks_kept (Some l) None h = h
-  marks_kept (Some l) (Some m) h = record { whole = h.whole; sorts = λ sort. places_kept l sort (places_in m sort) (h.sorts sort); few = h.few }
+  marks_kept (Some l) (Some m) h = record { whole = h.whole; sorts = λ sort. places_kept l sort (places_in m sort) (h.sorts sort); few = h.few; size = h.size }
 
   pub marked_kept : (layers : Layers) (marks : List (Option Marks)) → AreMarked old layers marks → AreMarked new layers marks
   marked_kept layers marks a = record { long = a.long; each = λ rater h. marks_kept (layer_of layers rater) (get_or marks rater None) (a.each rater h) }

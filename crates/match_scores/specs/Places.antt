@@ -1,8 +1,9 @@
 -- The annotations of a layer by the places of their contents in a table (private calls only).
-use Rattle.std.specs.Prelude.{◌≡◌, ℕ, ◌+◌, ◌<◌, ◌≤◌, ◌^◌, Bool, false, not, List, length, map, filter, count_by, All, get_or, slice_index, Option, Some, None, ⊤, IfSome}
+use Rattle.std.specs.Prelude.{◌≡◌, ℕ, ◌+◌, ◌<◌, ◌≤◌, ◌^◌, Bool, false, not, List, length, map, filter, count_by, sum_by, All, get_or, slice_index, Option, Some, None, ⊤, IfSome}
+use Rattle.std.specs.Option.{option_map_or}
 use Rattle.layer_model.specs.Annotations.{Annotations}
 use Rattle.layer_model.specs.Coherent.{IsCoherent}
-use Rattle.content_keys.specs.LayerContents.{contents_of}
+use Rattle.content_keys.specs.LayerContents.{class_contents_of, contents_of}
 use Rattle.content_keys.specs.declared.placed_layer.Placed.{Placed}
 use Rattle.match_scores.specs.declared.sort.Sort.{Sort}
 use Rattle.match_scores.specs.declared.sort.Sort.TheVariants.{Spans, Events, Relations}
@@ -41,11 +42,16 @@ pub record ArePlaces (table : List ℕ) (layer : Annotations) (sort : Sort) (pla
 unfoldable pub IsFew : Annotations → Type 0
 IsFew layer = length (contents_of layer) ≤ 2 ^ 40
 
--- the places of the annotations of each sort in a layer
+-- how many contents a layer has: those of its annotations of any sort, and those of its classes
+abbrev pub contents_in : Annotations → ℕ
+contents_in layer = length (contents_of layer) + length (class_contents_of layer)
+
+-- the places of the annotations of each sort in a layer, and how many contents it has
 pub record AreMarks (table : List ℕ) (layer : Annotations) (marks : Marks) : Type 0 where
   pub whole : IsCoherent layer
   pub sorts : (sort : Sort) → ArePlaces table layer sort (places_in marks sort)
   pub few : IsFew layer
+  pub size : marks.size ≡ contents_in layer
 
 -- the same where a layer stands, and no places where none stands
 abbrev pub IsMarked : List ℕ → Option Annotations → Option Marks → Type 0
@@ -58,6 +64,14 @@ IsMarked table (Some layer) (Some marks) = AreMarks table layer marks
 pub record AreMarked (table : List ℕ) (layers : Layers) (marks : List (Option Marks)) : Type 0 where
   pub long : length marks ≡ length layers
   pub each : (rater : ℕ) → rater < length layers → IsMarked table (layer_of layers rater) (get_or marks rater None)
+
+-- how many contents the layers that stand have, each layer's counted for itself
+abbrev pub contents_standing : Layers → ℕ
+contents_standing layers = sum_by (λ layer. option_map_or contents_in layer 0) layers
+
+-- the same by what is kept of a layer
+abbrev pub size_of : Option Marks → ℕ
+size_of marks = option_map_or (λ marks. marks.size) marks 0
 
 -- a count of two lists of places
 abbrev pub count_places : Part → Places → Places → ℕ

@@ -1,11 +1,11 @@
 //! The layers that stand on one document.
-ghost use Rattle.std.specs.Prelude.{◌≡◌, ℕ, ◌+◌, ◌<◌, ◌≤◌, ◌^◌, length, set, replicate, Option, Some, None, is_some, IfOk, IfSome, OnOk, OnErr};
+ghost use Rattle.std.specs.Prelude.{◌≡◌, ℕ, ◌+◌, ◌*◌, ◌<◌, ◌≤◌, ◌^◌, length, min, nat_lt, set, replicate, sum_by, Option, Some, None, is_some, IfOk, IfSome, OnOk, OnErr};
 ghost use Rattle.layer_model.specs.Coherent.{IsCoherent};
 ghost use Rattle.content_keys.specs.Tables.{Starts};
 ghost use Rattle.match_scores.specs.declared.sort.Sort.{Sort};
 ghost use Rattle.match_scores.specs.Matches.{Part, matched};
 ghost use Rattle.match_scores.specs.Standing.{layer_of};
-ghost use Rattle.match_scores.specs.Places.{AreCoherent, AreMarked, IsFew, IsMarked};
+ghost use Rattle.match_scores.specs.Places.{AreCoherent, AreMarked, IsFew, IsMarked, contents_standing, size_of};
 ghost use Rattle.match_scores.specs.Counted.{Shifts};
 ghost use Rattle.match_scores.specs.Tallies.{IsSquare, cell};
 
@@ -89,6 +89,19 @@ fn marks_of_each(
     Ok(marks)
 }
 
+/// Twice the contents of these layers, and 128 more; or the greatest number of the type, where they are more than that.
+fn roomy_count(marks: &[Option<Marks>]) -> usize
+    ensures { result ≡ min (2 * sum_by size_of marks.now + 128) 18446744073709551615 }
+{
+    let mut most: usize = 128;
+    for one in marks {
+        if let Some(one) = one {
+            most = most.saturating_add(one.size).saturating_add(one.size);
+        }
+    }
+    most
+}
+
 impl Document {
     /// A document without layers.
     pub(crate) fn new(alloc: Global, raters: u8) -> Result<Document, Memory>
@@ -103,15 +116,11 @@ impl Document {
         })
     }
 
-    /// Whether the table has more than twice the contents of the layers that stand.
-    fn is_crowded(&self) -> bool {
-        let mut standing: usize = 64;
-        for marks in &self.marks {
-            if let Some(marks) = marks {
-                standing = standing.saturating_add(marks.size);
-            }
-        }
-        self.table.count() / 2 > standing
+    /// Whether so many contents are more than twice those of the layers that stand, and 128 more.
+    fn is_crowded(&self, contents: usize) -> bool
+        ensures { result ≡ nat_lt (2 * contents_standing self.now + 128) contents }
+    {
+        contents > roomy_count(self.marks.as_slice())
     }
 
     /// Lets go of contents that no layer has any more: makes the table anew of those that stand. Want of
@@ -126,11 +135,11 @@ impl Document {
         Ok(())
     }
 
-    /// Lets go of contents that no layer has any more, where the table has grown to twice those that stand.
+    /// Lets go of contents that no layer has any more, where the table has more than twice those that stand.
     fn make_room(&mut self, alloc: Global) -> Result<(), Memory>
         ensures { self.new ≡ self.old }
     {
-        if self.is_crowded() {
+        if self.is_crowded(self.table.count()) {
             return self.renew(alloc);
         }
         Ok(())

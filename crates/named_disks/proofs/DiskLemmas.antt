@@ -69,7 +69,7 @@ others (entry ∷ disks) zero x d name other at is differ =
     cond-false (bytes_eq other x.0) _ _ (ap (bytes_eq other) key ∙ away) ∙ sym (cond-false (bytes_eq other entry.0) _ _ away)
 others (entry ∷ disks) (suc p) x d name other at is differ = ap (cond (is_of other entry) (bytes_of entry.1)) (others disks p x d name other at.1 is differ)
 
-has_names : (disks : List Entry) (p : ℕ) (x : Entry) (d : MemoryDisk) (name : List ℕ) → x ≡ slice_index_or disks p x → has_name (slice_set disks p (x.0, d)) name ≡ has_name disks name
+pub has_names : (disks : List Entry) (p : ℕ) (x : Entry) (d : MemoryDisk) (name : List ℕ) → x ≡ slice_index_or disks p x → has_name (slice_set disks p (x.0, d)) name ≡ has_name disks name
 has_names [] p x d name is = refl
 has_names (entry ∷ disks) zero x d name is = ap (λ (e : Entry). bytes_eq name e.0 || has_name disks name) is
 has_names (entry ∷ disks) (suc p) x d name is = ap (λ b. is_of name entry || b) (has_names disks p x d name is)
@@ -119,6 +119,11 @@ same_bytes (entry ∷ disks) name d other empty = ap (cond (is_of other entry) (
 pub has_name_still : (disks : List Entry) (entry : Entry) (name : List ℕ) → has_name disks name ≡ true → has_name (disks ++ entry ∷ []) name ≡ true
 has_name_still disks entry name h = list_any-append (is_of name) disks (entry ∷ []) ∙ ap (λ b. b || list_any (is_of name) (entry ∷ [])) h
 
+-- another name has a disk as before
+pub has_name_other : (disks : List Entry) (name : List ℕ) (d : MemoryDisk) (other : List ℕ) → other ≢ name → has_name (disks ++ (name, d) ∷ []) other ≡ has_name disks other
+has_name_other [] name d other differ = ap (λ b. b || false) (other_name other name differ)
+has_name_other (entry ∷ disks) name d other differ = ap (λ b. is_of other entry || b) (has_name_other disks name d other differ)
+
 -- a name whose first disk stands at a place has a disk
 pub has_at : (disks : List Entry) (name : List ℕ) (p : ℕ) → IsAt disks name p → has_name disks name ≡ true
 has_at [] name p at = absurd at
@@ -136,6 +141,10 @@ at_some disks name has none = absent disks name (ltb-false (position_or_len (is_
           | true ↦ λ le has. omega (arith, le)
           | false ↦ λ le has. absent disks name (omega (arith, le)) has
         ] le has
+
+-- a name of which no disk is the first has none
+pub has_none : (disks : List Entry) (name : List ℕ) → place_of disks name ≡ None → has_name disks name ≡ false
+has_none disks name none = false_from_ne_true (has_name disks name) (λ has. at_some disks name has none)
 
 -- a name that has no disk holds no bytes
 pub none_first : (disks : List Entry) (name : List ℕ) → place_of disks name ≡ None → first_bytes disks name ≡ []

@@ -1,14 +1,14 @@
 -- What named disks in memory store and which names are out, by the list of their disks and of the names.
-use Rattle.std.proofs.Common.{◌≡◌, ◌≢◌, ◌∙◌, ℕ, Bool, true, false, not, ◌||◌, cond, List, [], ◌∷◌, ◌++◌, Option, Some, map, bytes_eq, unwrap_or, refl, sym, ap, subst, arith}
+use Rattle.std.proofs.Common.{◌≡◌, ◌≢◌, ◌∙◌, ℕ, Bool, true, false, not, ◌||◌, cond, List, [], ◌∷◌, ◌++◌, Option, None, Some, map, bytes_eq, unwrap_or, is_some, refl, sym, ap, subst, arith}
 use Rattle.std.specs.List.{list_any, filter}
 use Rattle.std.specs.Ordering.{nat_cmp}
 use Rattle.std.specs.Cmp.Lexicographic.{slice_cmp, nat_list_cmp_total}
-use Rattle.std.specs.FinMap.{find, get-from_entries}
+use Rattle.std.specs.FinMap.{find, get, get-from_entries}
 use Rattle.std.proofs.lemmas.Map.Text.{is_eq-slice_cmp}
 use Rattle.project_journal.specs.MemoryDisks.{bytes_of}
-use Rattle.named_disks.specs.NamedDisks.{bytes_at, KeepsNames}
+use Rattle.named_disks.specs.NamedDisks.{bytes_at, is_there, KeepsNames}
 use Rattle.named_disks.specs.MemoryNames.{stored_of, first_bytes, place_of, has_name, HaveNames}
-use Rattle.named_disks.proofs.DiskLemmas.{Entry, own_name, other_name, same_name}
+use Rattle.named_disks.proofs.DiskLemmas.{Entry, has_none, own_name, other_name, same_name}
 
 found : (disks : List Entry) (name : List ℕ) → unwrap_or (find (slice_cmp nat_cmp) name (map (λ (e : Entry). (e.0, bytes_of e.1)) disks)) [] ≡ first_bytes disks name
 found [] name = refl
@@ -23,16 +23,39 @@ found (entry ∷ disks) name =
 pub stored_first : (disks : List Entry) (name : List ℕ) → bytes_at name (stored_of disks) ≡ first_bytes disks name
 stored_first disks name = ap (λ o. unwrap_or o []) (get-from_entries nat_list_cmp_total (map (λ (e : Entry). (e.0, bytes_of e.1)) disks) name) ∙ found disks name
 
+there_found : (disks : List Entry) (name : List ℕ) → is_some (find (slice_cmp nat_cmp) name (map (λ (e : Entry). (e.0, bytes_of e.1)) disks)) ≡ has_name disks name
+there_found [] name = refl
+there_found (entry ∷ disks) name =
+    ap (λ b. is_some (cond b (Some (bytes_of entry.1)) (find (slice_cmp nat_cmp) name (map (λ (e : Entry). (e.0, bytes_of e.1)) disks)))) (is_eq-slice_cmp name entry.0)
+    ∙ elim (bytes_eq name entry.0) as (λ b. is_some (cond b (Some (bytes_of entry.1)) (find (slice_cmp nat_cmp) name (map (λ (e : Entry). (e.0, bytes_of e.1)) disks))) ≡ (b || has_name disks name)) [
+      | true ↦ refl
+      | false ↦ there_found disks name
+    ]
+
+-- there is a disk of a name where some disk has it
+pub there : (disks : List Entry) (name : List ℕ) → is_there (Some (stored_of disks)) name ≡ Some (has_name disks name)
+there disks name = ap Some (ap is_some (get-from_entries nat_list_cmp_total (map (λ (e : Entry). (e.0, bytes_of e.1)) disks) name) ∙ there_found disks name)
+
+-- there is no disk of a name that is the first nowhere
+pub there_none : (disks : List Entry) (name : List ℕ) → place_of disks name ≡ None → is_some (get (stored_of disks) name) ≡ false
+there_none disks name none = ap is_some (get-from_entries nat_list_cmp_total (map (λ (e : Entry). (e.0, bytes_of e.1)) disks) name) ∙ there_found disks name ∙ has_none disks name none
+
+-- lists of disks that have the same names have a disk of the same names
+pub there_same : (disks others : List Entry) (name : List ℕ) → has_name others name ≡ has_name disks name → is_there (Some (stored_of others)) name ≡ is_there (Some (stored_of disks)) name
+there_same disks others name e = there others name ∙ ap Some e ∙ sym (there disks name)
+
 -- lists of disks whose first ones hold the same store the same
 pub stored_same : (disks others : List Entry) (name : List ℕ) → first_bytes others name ≡ first_bytes disks name → bytes_at name (stored_of others) ≡ bytes_at name (stored_of disks)
 stored_same disks others name e = stored_first others name ∙ e ∙ sym (stored_first disks name)
 
--- names are kept where the first disk of each holds what it held, and each is out as it was
-pub keep : (These : List ℕ → Type 0) (disks others : List Entry) (out out_now : List (List ℕ)) → ((name : List ℕ) → These name → first_bytes others name ≡ first_bytes disks name) → ((name : List ℕ) → These name → list_any (bytes_eq name) out_now ≡ list_any (bytes_eq name) out) → KeepsNames These (Some (stored_of disks)) (Some out) (Some (stored_of others)) (Some out_now)
-keep These disks others out out_now same known = record {
+-- names are kept where the first disk of each holds what it held, some disk has it as before, and each is out as it was
+pub keep : (These : List ℕ → Type 0) (disks others : List Entry) (out out_now : List (List ℕ)) → ((name : List ℕ) → These name → first_bytes others name ≡ first_bytes disks name)
+    → ((name : List ℕ) → These name → has_name others name ≡ has_name disks name) → ((name : List ℕ) → These name → list_any (bytes_eq name) out_now ≡ list_any (bytes_eq name) out) → KeepsNames These (Some (stored_of disks)) (Some out) (Some (stored_of others)) (Some out_now)
+keep These disks others out out_now same has known = record {
   told = refl;
   told_out = refl;
   reads = λ name this. ap Some (stored_same disks others name (same name this));
+  same_there = λ name this. there_same disks others name (has name this);
   same_out = λ name this. ap Some (known name this);
 }
 

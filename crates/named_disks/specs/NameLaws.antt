@@ -10,6 +10,7 @@ keeps_both first then = record {
   told = then.told ∙ first.told;
   told_out = then.told_out ∙ first.told_out;
   reads = λ name this. then.reads name this ∙ first.reads name this;
+  same_there = λ name this. then.same_there name this ∙ first.same_there name this;
   same_out = λ name this. then.same_out name this ∙ first.same_out name this;
 }
 
@@ -20,6 +21,7 @@ keeps_those among kept = record {
   told = kept.told;
   told_out = kept.told_out;
   reads = λ name that. kept.reads name (among name that);
+  same_there = λ name that. kept.same_there name (among name that);
   same_out = λ name that. kept.same_out name (among name that);
 }
 

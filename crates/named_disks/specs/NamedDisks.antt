@@ -18,6 +18,14 @@ bytes_at name stored = unwrap_or (map.get stored name) []
 abbrev pub reads_as : Option Stored → List ℕ → Option (List ℕ)
 reads_as stored name = option_map (bytes_at name) stored
 
+-- whether there is a disk of a name, where the disks tell it
+abbrev pub is_there : Option Stored → List ℕ → Option Bool
+is_there stored name = option_map (λ it. is_some (map.get it name)) stored
+
+-- there is no disk of a name, as far as the disks tell it
+abbrev pub IsLacking : Option Stored → List ℕ → Type 0
+IsLacking stored name = IfSome (is_there stored name) (λ there. there ≡ false)
+
 -- whether the disk of a name is out, where the disks tell which names are
 abbrev pub is_out : Option (List (List ℕ)) → List ℕ → Option Bool
 is_out out name = option_map (λ names. list_any (bytes_eq name) names) out
@@ -30,11 +38,12 @@ IsOut out name = IfSome (is_out out name) (λ told. told ≡ true)
 abbrev pub IsIn : Option (List (List ℕ)) → List ℕ → Type 0
 IsIn out name = IfSome (is_out out name) (λ told. told ≡ false)
 
--- Each of these names is as before: what its disk reads as, and whether it is out. What was told of all names is still told.
+-- Each of these names is as before: what its disk reads as, whether there is one, and whether it is out. What was told of all names is still told.
 pub record KeepsNames (These : List ℕ → Type 0) (stored : Option Stored) (out : Option (List (List ℕ))) (stored_now : Option Stored) (out_now : Option (List (List ℕ))) : Type 0 where
   pub told : is_some stored_now ≡ is_some stored
   pub told_out : is_some out_now ≡ is_some out
   pub reads : (name : List ℕ) → These name → reads_as stored_now name ≡ reads_as stored name
+  pub same_there : (name : List ℕ) → These name → is_there stored_now name ≡ is_there stored name
   pub same_out : (name : List ℕ) → These name → is_out out_now name ≡ is_out out name
 
 -- each name but this one is as before

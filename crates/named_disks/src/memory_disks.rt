@@ -1,5 +1,5 @@
 //! Named disks in memory.
-ghost use Rattle.std.specs.Prelude.{◌≡◌, ◌≢◌, ◌<◌, [], ◌∷◌, ◌++◌, ℕ, List, None, Some, true, false, is_some, length, map, not, option_map, unwrap_or, IfOk, IfSome, IsErrOf, OnErr, OnOk, bytes_eq};
+ghost use Rattle.std.specs.Prelude.{◌≡◌, ◌≢◌, ◌<◌, [], ◌∷◌, ◌++◌, ℕ, List, None, Some, true, false, is_some, length, map, not, option_map, unwrap_or, IfErr, IfOk, IfSome, IsErrOf, OnErr, OnOk, bytes_eq};
 ghost use Rattle.std.specs.List.{filter, list_any};
 ghost use Rattle.mark_base.specs.FailList.{IsFaultless};
 ghost use Rattle.project_journal.specs.MemoryDisks.{bytes_of, FailsNoMore};
@@ -26,7 +26,7 @@ impl MemoryDisks {
     ghost use Rattle.named_disks.specs.MemoryCalls.{calls_of};
 
     /// These disks, each with its name; of several disks of one name the first counts. The numbers name the calls of
-    /// [`Disks::disk`], from 1, that fail; nothing else does.
+    /// [`Disks::disk`], [`Disks::make`] and [`Disks::look`] together, from 1, that fail; nothing else does.
     pub fn new(alloc: Global, disks: Vec<(Text, MemoryDisk)>, fails: Vec<u64>) -> Self
         ensures stored { ⟦<MemoryDisks as Disks>⟧.stored result ≡ Some (stored_of disks.items) }
         ensures out { ⟦<MemoryDisks as Disks>⟧.out result ≡ Some [] }
@@ -76,6 +76,7 @@ fn place_for(
 ) -> Result<usize, Memory>
     ensures place { IfOk result (λ place. place_of disks.new.items name.now ≡ Some place) }
     ensures same { (other : List ℕ) → first_bytes disks.new.items other ≡ first_bytes disks.old.items other }
+    ensures has { (other : List ℕ) → other ≢ name.now → has_name disks.new.items other ≡ has_name disks.old.items other }
     ensures names { (out : List (List ℕ)) → HaveNames disks.old.items out → HaveNames disks.new.items out }
     ensures faultless { FailNoMore disks.old.items → FailNoMore disks.new.items }
 {
@@ -94,6 +95,7 @@ fn exchange(disks: &mut Vec<(Text, MemoryDisk)>, place: usize, disk: MemoryDisk)
     ensures taken { (name : List ℕ) → place_of disks.old.items name ≡ Some place → bytes_of result ≡ first_bytes disks.old.items name }
     ensures put { (name : List ℕ) → place_of disks.old.items name ≡ Some place → first_bytes disks.new.items name ≡ bytes_of disk }
     ensures others { (name other : List ℕ) → place_of disks.old.items name ≡ Some place → other ≢ name → first_bytes disks.new.items other ≡ first_bytes disks.old.items other }
+    ensures has { (name : List ℕ) → has_name disks.new.items name ≡ has_name disks.old.items name }
     ensures names { (out : List (List ℕ)) → HaveNames disks.old.items out → HaveNames disks.new.items out }
     ensures faultless { FailNoMore disks.old.items → FailsNoMore result × (FailsNoMore disk → FailNoMore disks.new.items) }
 {
@@ -119,8 +121,9 @@ fn strike(out: &mut Vec<Text>, name: &str)
 
 impl Disks for MemoryDisks {
     ghost use Rattle.mark_base.specs.FailList.{CountsCall};
-    ghost use Rattle.named_disks.specs.MemoryCalls.{calls_of, has_failed};
-    ghost use Rattle.named_disks.specs.NamedDisks.{IsIn, IsOut, KeepsAll, KeepsOthers, TellsDisks, reads_as};
+    ghost use Rattle.named_disks.specs.MemoryCalls.{calls_of};
+    ghost use Rattle.named_disks.specs.DiskFaults.{has_failed};
+    ghost use Rattle.named_disks.specs.NamedDisks.{IsIn, IsLacking, IsOut, KeepsAll, KeepsOthers, TellsDisks, is_there, reads_as};
 
     type Disk = MemoryDisk;
 
@@ -138,7 +141,31 @@ impl Disks for MemoryDisks {
         ensures handed_out { OnOk result (IsOut (⟦<MemoryDisks as Disks>⟧.out self.new) name.now) }
         ensures others { OnOk result (KeepsOthers name.now (⟦<MemoryDisks as Disks>⟧.stored self.old) (⟦<MemoryDisks as Disks>⟧.out self.old) (⟦<MemoryDisks as Disks>⟧.stored self.new) (⟦<MemoryDisks as Disks>⟧.out self.new)) }
         ensures refused { OnErr result (KeepsAll (⟦<MemoryDisks as Disks>⟧.stored self.old) (⟦<MemoryDisks as Disks>⟧.out self.old) (⟦<MemoryDisks as Disks>⟧.stored self.new) (⟦<MemoryDisks as Disks>⟧.out self.new)) }
-        ensures faults { TellsDisks (⟦<MemoryDisks as Disks>⟧.faults self.old) (⟦<MemoryDisks as Disks>⟧.faultless self.old) (⟦<MemoryDisks as Disks>⟧.faults self.new) (⟦<MemoryDisks as Disks>⟧.faultless self.new) (IsErrOf result DisksFault.Failed) }
+        ensures absent { IsErrOf result DisksFault.Absent → IsLacking (⟦<MemoryDisks as Disks>⟧.stored self.old) name.now }
+        ensures none_made { is_there (⟦<MemoryDisks as Disks>⟧.stored self.new) name.now ≡ is_there (⟦<MemoryDisks as Disks>⟧.stored self.old) name.now }
+        ensures faults { TellsDisks (⟦<MemoryDisks as Disks>⟧.faults self.old) (⟦<MemoryDisks as Disks>⟧.faultless self.old) (⟦<MemoryDisks as Disks>⟧.faults self.new) (⟦<MemoryDisks as Disks>⟧.faultless self.new) (has_failed result ≡ true) }
+        ensures faultless { ⟦<MemoryDisks as Disks>⟧.faultless self.old → IfOk result (λ disk. ⟦<MemoryDisk as Disk>⟧.faultless disk) }
+        // The call is counted once, and fails exactly where the list has its number.
+        ensures listed { CountsCall (calls_of self.old) (has_failed result) (calls_of self.new) }
+    {
+        if self.fails.fails() {
+            return Err(DisksFault::Failed);
+        }
+        let Some(place) = place_of(&self.disks, name) else {
+            return Err(DisksFault::Absent);
+        };
+        note(alloc, &mut self.out, name)?;
+        Ok(exchange(&mut self.disks, place, empty_disk(alloc)))
+    }
+
+    fn make(&mut self, alloc: Global, name: &str) -> Result<MemoryDisk, DisksFault>
+        requires { IsIn (⟦<MemoryDisks as Disks>⟧.out self.old) name.now }
+        ensures reads { IfOk result (λ disk. IfSome (reads_as (⟦<MemoryDisks as Disks>⟧.stored self.old) name.now) (λ file. ⟦<MemoryDisk as Disk>⟧.holds disk ≡ Some file)) }
+        ensures handed_out { OnOk result (IsOut (⟦<MemoryDisks as Disks>⟧.out self.new) name.now) }
+        ensures others { KeepsOthers name.now (⟦<MemoryDisks as Disks>⟧.stored self.old) (⟦<MemoryDisks as Disks>⟧.out self.old) (⟦<MemoryDisks as Disks>⟧.stored self.new) (⟦<MemoryDisks as Disks>⟧.out self.new) }
+        ensures refused { OnErr result ((reads_as (⟦<MemoryDisks as Disks>⟧.stored self.new) name.now ≡ reads_as (⟦<MemoryDisks as Disks>⟧.stored self.old) name.now) × IsIn (⟦<MemoryDisks as Disks>⟧.out self.new) name.now) }
+        ensures made { IfErr result (λ fault. fault ≢ DisksFault.Absent) }
+        ensures faults { TellsDisks (⟦<MemoryDisks as Disks>⟧.faults self.old) (⟦<MemoryDisks as Disks>⟧.faultless self.old) (⟦<MemoryDisks as Disks>⟧.faults self.new) (⟦<MemoryDisks as Disks>⟧.faultless self.new) (has_failed result ≡ true) }
         ensures faultless { ⟦<MemoryDisks as Disks>⟧.faultless self.old → IfOk result (λ disk. ⟦<MemoryDisk as Disk>⟧.faultless disk) }
         // The call is counted once, and fails exactly where the list has its number.
         ensures listed { CountsCall (calls_of self.old) (has_failed result) (calls_of self.new) }
@@ -149,6 +176,27 @@ impl Disks for MemoryDisks {
         let place = place_for(alloc, &mut self.disks, name)?;
         note(alloc, &mut self.out, name)?;
         Ok(exchange(&mut self.disks, place, empty_disk(alloc)))
+    }
+
+    fn look(&mut self, alloc: Global, name: &str) -> Result<Bytes, DisksFault>
+        requires { IsIn (⟦<MemoryDisks as Disks>⟧.out self.old) name.now }
+        ensures reads { IfOk result (λ bytes. IfSome (reads_as (⟦<MemoryDisks as Disks>⟧.stored self.old) name.now) (λ file. bytes ≡ file)) }
+        ensures kept { KeepsAll (⟦<MemoryDisks as Disks>⟧.stored self.old) (⟦<MemoryDisks as Disks>⟧.out self.old) (⟦<MemoryDisks as Disks>⟧.stored self.new) (⟦<MemoryDisks as Disks>⟧.out self.new) }
+        ensures absent { IsErrOf result DisksFault.Absent → IsLacking (⟦<MemoryDisks as Disks>⟧.stored self.old) name.now }
+        ensures faults { TellsDisks (⟦<MemoryDisks as Disks>⟧.faults self.old) (⟦<MemoryDisks as Disks>⟧.faultless self.old) (⟦<MemoryDisks as Disks>⟧.faults self.new) (⟦<MemoryDisks as Disks>⟧.faultless self.new) (has_failed result ≡ true) }
+        // The call is counted once, and fails exactly where the list has its number.
+        ensures listed { CountsCall (calls_of self.old) (has_failed result) (calls_of self.new) }
+    {
+        if self.fails.fails() {
+            return Err(DisksFault::Failed);
+        }
+        match place_of(&self.disks, name) {
+            Some(place) => {
+                let bytes = Bytes::of(alloc, self.disks[place].1.bytes())?;
+                Ok(bytes)
+            }
+            None => Err(DisksFault::Absent),
+        }
     }
 
     fn give_back(&mut self, name: &str, disk: MemoryDisk) {

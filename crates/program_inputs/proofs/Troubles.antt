@@ -4,7 +4,7 @@ use Rattle.std.specs.Prelude.{◌≢◌, IfErr, IsErrOf}
 use Rattle.mark_base.specs.Streams.{TellsFault}
 use Rattle.program_inputs.specs.Troubles.{Complains, Says, status_of}
 use Rattle.program_inputs.specs.declared.trouble.Trouble.{Trouble}
-use Rattle.program_inputs.specs.declared.trouble.Trouble.TheVariants.{Usage, Conf, Ann, Columns, ColumnsOut, Roster, TextNotUtf8, TextTooLong, FileAbsent, FileTooLong, FileFailed, NotAJournal, NewerVersion, Damaged, AlreadyThere, BookTooLong, BadEntry, Refused, DiskFailed, DoorFailed, Cut, BadHead, NeedsLength, TooLarge, Encoded, Spent, ReadFault, WriteFault, Memory}
+use Rattle.program_inputs.specs.declared.trouble.Trouble.TheVariants.{Usage, Conf, Ann, Columns, ColumnsOut, Roster, TextNotUtf8, TextTooLong, FileAbsent, FileTooLong, FileFailed, NotAJournal, NewerVersion, Damaged, AlreadyThere, BookTooLong, BadEntry, Refused, DiskInUse, DiskFailed, DoorFailed, Cut, BadHead, NeedsLength, TooLarge, Encoded, Spent, ReadFault, WriteFault, Memory}
 
 -- a success is no error
 pub not_err : {X : Type 0} {done : Result X Trouble} {value : X} {named : Trouble} → done ≡ Ok value → done ≡ Err named → ⊥
@@ -47,7 +47,8 @@ status_some verifies (Damaged number) is = absurd (omega (arith, is))
 status_some verifies (AlreadyThere length) is = absurd (omega (arith, is))
 status_some verifies (BookTooLong bytes) is = absurd (omega (arith, is))
 status_some verifies (BadEntry number) is = absurd (omega (arith, is))
-status_some verifies (Refused refusal) is = absurd (omega (arith, is))
+status_some verifies (Refused refusal named) is = absurd (omega (arith, is))
+status_some verifies DiskInUse is = absurd (omega (arith, is))
 status_some verifies DiskFailed is = absurd (omega (arith, is))
 status_some verifies DoorFailed is = absurd (omega (arith, is))
 status_some verifies Cut is = absurd (omega (arith, is))

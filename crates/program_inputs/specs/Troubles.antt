@@ -1,5 +1,5 @@
 -- Why a run does not do its job: the line that says so on the complaint sink, and the status.
-use Rattle.std.specs.Prelude.{◌≡◌, ℕ, ◌⊎◌, Bool, List, [], ◌++◌, Option, Some, None, codes, decimal, if◌then◌else◌, Result, Ok, Err}
+use Rattle.std.specs.Prelude.{◌≡◌, ℕ, ◌⊎◌, Bool, List, [], ◌∷◌, ◌++◌, Option, Some, None, codes, decimal, if◌then◌else◌, Result, Ok, Err}
 use Rattle.std.specs.Option.{option_map_or}
 use Rattle.std.specs.Io.KnownBytes.{Appends}
 use Rattle.mark_base.specs.Streams.{AppendsFront, Rose}
@@ -22,7 +22,7 @@ use Rattle.roster_file.specs.declared.roster_read.RosterRead.TheVariants as rost
 use Rattle.program_inputs.specs.declared.trouble.Trouble.{Trouble}
 use Rattle.project_machine.specs.declared.book_refusal.BookRefusal.{BookRefusal}
 use Rattle.http_answers.specs.AnswerBodies.Refusals.{name_of}
-use Rattle.program_inputs.specs.declared.trouble.Trouble.TheVariants.{Usage, Conf, Ann, Columns, ColumnsOut, Roster, TextNotUtf8, TextTooLong, FileAbsent, FileTooLong, FileFailed, NotAJournal, NewerVersion, Damaged, AlreadyThere, BookTooLong, BadEntry, Refused, DiskFailed, DoorFailed, Cut, BadHead, NeedsLength, TooLarge, Encoded, Spent, ReadFault, WriteFault, Memory}
+use Rattle.program_inputs.specs.declared.trouble.Trouble.TheVariants.{Usage, Conf, Ann, Columns, ColumnsOut, Roster, TextNotUtf8, TextTooLong, FileAbsent, FileTooLong, FileFailed, NotAJournal, NewerVersion, Damaged, AlreadyThere, BookTooLong, BadEntry, Refused, DiskInUse, DiskFailed, DoorFailed, Cut, BadHead, NeedsLength, TooLarge, Encoded, Spent, ReadFault, WriteFault, Memory}
 
 -- what is said of a fault of an .ann file: its name, and the place or the rule that it carries
 abbrev pub ann_name : AnnWhat → List ℕ
@@ -54,9 +54,14 @@ at_line file line name = file ++ (codes " line " ++ (decimal line ++ (codes ": "
 abbrev pub with_number : List ℕ → ℕ → List ℕ
 with_number label number = label ++ (decimal number ++ codes "\n")
 
--- the line of what a project or a desk refuses, as `refused: DocumentThere`
-abbrev pub refused_line : BookRefusal → List ℕ
-refused_line refusal = codes "refused: " ++ (name_of refusal ++ codes "\n")
+-- what a refusal names, behind a space, or nothing
+abbrev pub behind_space : List ℕ → List ℕ
+behind_space [] = []
+behind_space (byte ∷ bytes) = codes " " ++ (byte ∷ bytes)
+
+-- the line of what a project or a desk refuses, as `refused: DocumentThere` and `refused: TooFew E1 Who`
+abbrev pub refused_line : BookRefusal → (named : List ℕ) → List ℕ
+refused_line refusal named = codes "refused: " ++ (name_of refusal ++ (behind_space named ++ codes "\n"))
 
 -- the line of a layer that columns do not show, as `columns: Shared T2`
 abbrev pub with_id : List ℕ → AnnId → List ℕ
@@ -109,7 +114,8 @@ fixed_line (Damaged number) = None
 fixed_line (AlreadyThere length) = None
 fixed_line (BookTooLong bytes) = None
 fixed_line (BadEntry number) = None
-fixed_line (Refused refusal) = None
+fixed_line (Refused refusal named) = None
+fixed_line DiskInUse = Some (codes "disk: InUse\n")
 fixed_line DiskFailed = Some (codes "disk: Failed\n")
 fixed_line DoorFailed = Some (codes "door: Failed\n")
 fixed_line Cut = Some (codes "input: Cut\n")
@@ -134,7 +140,7 @@ made_line (Damaged number) = with_number (codes "journal: Damaged ") number
 made_line (AlreadyThere length) = with_number (codes "journal: AlreadyThere ") length
 made_line (BookTooLong bytes) = with_number (codes "book: EntryTooLong ") bytes
 made_line (BadEntry number) = with_number (codes "book: BadEntry ") number
-made_line (Refused refusal) = refused_line refusal
+made_line (Refused refusal named) = refused_line refusal named
 made_line trouble = []
 
 -- the line that says a trouble
@@ -160,7 +166,8 @@ status_of verifies (Damaged number) = 3
 status_of verifies (AlreadyThere length) = 3
 status_of verifies (BookTooLong bytes) = 3
 status_of verifies (BadEntry number) = 3
-status_of verifies (Refused refusal) = 3
+status_of verifies (Refused refusal named) = 3
+status_of verifies DiskInUse = 4
 status_of verifies DiskFailed = 4
 status_of verifies DoorFailed = 5
 status_of verifies Cut = 3

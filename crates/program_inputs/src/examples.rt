@@ -1,5 +1,5 @@
 //! What is said of a run, on a few examples.
-ghost use Rattle.std.specs.Prelude.{◌≡◌, true, false, codes};
+ghost use Rattle.std.specs.Prelude.{◌≡◌, true, false, [], codes};
 ghost use Rattle.conf_model.specs.declared.conf_fault.ConfWhat.{ConfWhat};
 ghost use Rattle.layer_model.specs.declared.rule.Rule.{Rule};
 ghost use Rattle.mark_base.specs.declared.ann_id.Kind.{Kind};
@@ -9,6 +9,7 @@ ghost use Rattle.token_columns.specs.declared.column_fault.ColumnWhat.{ColumnWha
 ghost use Rattle.roster_file.specs.declared.roster_read.RosterRead.{RosterRead};
 ghost use Rattle.project_machine.specs.declared.roster_fault.RosterFault.{RosterFault};
 ghost use Rattle.project_machine.specs.declared.book_refusal.BookRefusal.{BookRefusal};
+ghost use Rattle.project_machine.specs.declared.book_refusal.Policy.{Policy};
 ghost use Rattle.program_inputs.specs.declared.trouble.Trouble.{Trouble};
 ghost use Rattle.program_inputs.specs.Troubles.{line_of, status_of};
 
@@ -24,8 +25,11 @@ pub fn examples_of_complaints()
     ensures lacking { line_of (Trouble.Roster (RosterRead.Roster RosterFault.Lacking)) ≡ codes "roster: Lacking\n" }
     ensures door { line_of Trouble.DoorFailed ≡ codes "door: Failed\n" }
     ensures version { line_of (Trouble.NewerVersion 9) ≡ codes "journal: NewerVersion 9\n" }
-    ensures refused { line_of (Trouble.Refused BookRefusal.DocumentThere) ≡ codes "refused: DocumentThere\n" }
-    ensures rule { line_of (Trouble.Refused (BookRefusal.Broken Rule.DeskFull)) ≡ codes "refused: DeskFull\n" }
+    ensures refused { line_of (Trouble.Refused BookRefusal.DocumentThere []) ≡ codes "refused: DocumentThere\n" }
+    ensures rule { line_of (Trouble.Refused (BookRefusal.Broken Rule.DeskFull) []) ≡ codes "refused: DeskFull\n" }
+    ensures named { line_of (Trouble.Refused (BookRefusal.NotAllowed Policy.Own) (codes "Own")) ≡ codes "refused: NotAllowed Own\n" }
+    ensures in_use { line_of Trouble.DiskInUse ≡ codes "disk: InUse\n" }
+    ensures used { status_of false Trouble.DiskInUse ≡ 4 }
     ensures disk { status_of false Trouble.DiskFailed ≡ 4 }
     ensures shown { status_of false (Trouble.Columns 2 ColumnWhat.Orphan) ≡ 3 }
     ensures tried { status_of false (Trouble.Conf 3 ConfWhat.NameTwice) ≡ 3 }

@@ -47,6 +47,7 @@ fn read_file<F: Folder>(
     ensures no_read { IfErr result (λ trouble. trouble ≢ Trouble.ReadFault) }
     ensures no_write { IfErr result (λ trouble. trouble ≢ Trouble.WriteFault) }
     ensures no_disk { IfErr result (λ trouble. trouble ≢ Trouble.DiskFailed) }
+    ensures no_use { IfErr result (λ trouble. trouble ≢ Trouble.DiskInUse) }
 {
     match folder.read(alloc, name, limit) {
         Ok(bytes) => Ok(bytes),
@@ -67,6 +68,7 @@ pub fn read_conf_file<F: Folder>(alloc: Global, folder: &mut F, name: &str) -> R
     ensures no_read { IfErr result (λ trouble. trouble ≢ Trouble.ReadFault) }
     ensures no_write { IfErr result (λ trouble. trouble ≢ Trouble.WriteFault) }
     ensures no_disk { IfErr result (λ trouble. trouble ≢ Trouble.DiskFailed) }
+    ensures no_use { IfErr result (λ trouble. trouble ≢ Trouble.DiskInUse) }
 {
     let bytes = read_file(alloc, folder, name, LONGEST_CONF)?;
     match read_conf(alloc, bytes.items()) {
@@ -90,6 +92,7 @@ pub fn read_roster_file<F: Folder>(
     ensures no_read { IfErr result (λ trouble. trouble ≢ Trouble.ReadFault) }
     ensures no_write { IfErr result (λ trouble. trouble ≢ Trouble.WriteFault) }
     ensures no_disk { IfErr result (λ trouble. trouble ≢ Trouble.DiskFailed) }
+    ensures no_use { IfErr result (λ trouble. trouble ≢ Trouble.DiskInUse) }
 {
     let bytes = read_file(alloc, folder, name, LONGEST_ROSTER)?;
     match read_roster(alloc, bytes.items()) {
@@ -109,6 +112,7 @@ pub fn read_text_file<F: Folder>(alloc: Global, folder: &mut F, name: &str) -> R
     ensures no_read { IfErr result (λ trouble. trouble ≢ Trouble.ReadFault) }
     ensures no_write { IfErr result (λ trouble. trouble ≢ Trouble.WriteFault) }
     ensures no_disk { IfErr result (λ trouble. trouble ≢ Trouble.DiskFailed) }
+    ensures no_use { IfErr result (λ trouble. trouble ≢ Trouble.DiskInUse) }
 {
     let bytes = read_file(alloc, folder, name, LONGEST_TEXT)?;
     match str::from_utf8(bytes.items()) {
@@ -138,6 +142,7 @@ pub fn read_ann_file<F: Folder>(
     ensures no_read { IfErr result (λ trouble. trouble ≢ Trouble.ReadFault) }
     ensures no_write { IfErr result (λ trouble. trouble ≢ Trouble.WriteFault) }
     ensures no_disk { IfErr result (λ trouble. trouble ≢ Trouble.DiskFailed) }
+    ensures no_use { IfErr result (λ trouble. trouble ≢ Trouble.DiskInUse) }
 {
     let bytes = read_file(alloc, folder, name, LONGEST_ANN)?;
     match read_ann(alloc, bytes.items(), doc, conf) {
@@ -164,6 +169,7 @@ pub fn read_columns_file<F: Folder>(
     ensures no_read { IfErr result (λ trouble. trouble ≢ Trouble.ReadFault) }
     ensures no_write { IfErr result (λ trouble. trouble ≢ Trouble.WriteFault) }
     ensures no_disk { IfErr result (λ trouble. trouble ≢ Trouble.DiskFailed) }
+    ensures no_use { IfErr result (λ trouble. trouble ≢ Trouble.DiskInUse) }
 {
     let bytes = read_file(alloc, folder, name, LONGEST_COLUMNS)?;
     match read_columns(alloc, bytes.items(), doc, conf) {

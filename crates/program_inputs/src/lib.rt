@@ -8,7 +8,8 @@
 //! let status = end_run(alloc, &mut complaint, done, false);          // "conf line 3: NameTwice\n", 3
 //! ```
 //!
-//! [`open_project`] takes the file of a project from named disks, and [`give_project_back`] gives it back.
+//! [`open_project`] takes the file of a project from named disks, and [`give_project_back`] gives it back;
+//! [`look_at_project`] reads it as it stands.
 #![tactic(auto)]
 
 mod complaint;
@@ -26,5 +27,7 @@ pub use crate::files::{
 };
 pub use crate::folder::{Folder, FolderFault};
 pub use crate::memory_folder::MemoryFolder;
-pub use crate::project_files::{found_project, give_project_back, make_file, open_project};
+pub use crate::project_files::{
+    found_project, give_project_back, look_at_project, make_file, open_project,
+};
 pub use crate::trouble::{Trouble, with_number};

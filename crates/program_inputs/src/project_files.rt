@@ -9,8 +9,13 @@
 //! give_project_back(&mut disks, "news.book", book);
 //! ```
 //!
+//! A command that only reads looks at the file as it stands, by [`look_at_project`], and gives nothing back. No file comes to
+//! be but by [`found_project`] and [`make_file`].
+//!
 //! What a file holds of a project is defined in `specs/ProjectFiles/ProjectFiles.antt`.
 mod files;
 mod named;
 
-pub use crate::project_files::named::{found_project, give_project_back, make_file, open_project};
+pub use crate::project_files::named::{
+    found_project, give_project_back, look_at_project, make_file, open_project,
+};

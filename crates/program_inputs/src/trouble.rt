@@ -7,14 +7,14 @@ use ann_reader::AnnWhat;
 use conf_model::ConfWhat;
 use http_answers::refusal_name;
 use layer_rules::id_text;
-use mark_base::{AnnId, Memory};
+use mark_base::{AnnId, Memory, Text};
 use project_machine::BookRefusal;
 use roster_file::{RosterFault, RosterRead};
 use std::alloc::Global;
 use token_columns::{ColumnOut, ColumnWhat};
 
 /// Why a run does not do its job.
-#[derive(Clone, Copy, Debug)]
+#[derive(Debug, Drop)]
 pub enum Trouble {
     /// The words are no command.
     Usage,
@@ -50,8 +50,10 @@ pub enum Trouble {
     BookTooLong { bytes: u64 },
     /// The entry of this number, from 1, of a journal is absent, or none that a project can have there.
     BadEntry { number: u64 },
-    /// A project or a desk refused what the command asks of it.
-    Refused { refusal: BookRefusal },
+    /// A project or a desk refused what the command asks of it; `named` is what the refusal names, as `E1 Who`, or empty.
+    Refused { refusal: BookRefusal, named: Text },
+    /// Another process has the file of a project, which what hands out disks counted as a fault.
+    DiskInUse,
     /// A fault of a disk, which it or what hands it out counted.
     DiskFailed,
     /// A fault of the door at which connections are taken in, which it or what hands it out counted.
@@ -126,12 +128,15 @@ pub fn with_number(alloc: Global, label: &str, number: u64) -> Result<String, Me
     Ok(format!(in alloc; "{label}{number}\n")?)
 }
 
-/// The line of what a project or a desk refuses.
-fn refused_line(alloc: Global, refusal: BookRefusal) -> Result<String, Memory>
-    ensures { IfOk result (λ text. string_bytes text ≡ refused_line refusal) }
+/// The line of what a project or a desk refuses, with what the refusal names.
+fn refused_line(alloc: Global, refusal: BookRefusal, named: &str) -> Result<String, Memory>
+    ensures { IfOk result (λ text. string_bytes text ≡ refused_line refusal named.now) }
 {
     let name = refusal_name(refusal);
-    Ok(format!(in alloc; "refused: {name}\n")?)
+    if named.is_empty() {
+        return Ok(format!(in alloc; "refused: {name}\n")?);
+    }
+    Ok(format!(in alloc; "refused: {name} {named}\n")?)
 }
 
 /// The line of a fault of a file.
@@ -200,13 +205,13 @@ fn roster_line(alloc: Global, fault: RosterRead) -> Result<String, Memory>
 impl Trouble {
     /// The status of a run that ends so; a fault of the configuration or the .ann file has a status of
     /// its own where the command is one that looks for such faults.
-    pub(crate) fn status(self, verifies: bool) -> u8
-        ensures { result ≡ status_of verifies self }
+    pub(crate) fn status(&self, verifies: bool) -> u8
+        ensures { result ≡ status_of verifies self.now }
     {
         match self {
             Trouble::Conf { .. } | Trouble::Ann { .. } => { if verifies { 1 } else { 3 } }
             Trouble::Usage => 2,
-            Trouble::FileFailed | Trouble::DiskFailed => 4,
+            Trouble::FileFailed | Trouble::DiskInUse | Trouble::DiskFailed => 4,
             Trouble::ReadFault | Trouble::DoorFailed => 5,
             Trouble::WriteFault => 6,
             Trouble::Memory => 7,
@@ -215,8 +220,8 @@ impl Trouble {
     }
 
     /// The line that says it, where it carries nothing.
-    pub(crate) fn fixed_line(self) -> Option<&'static str>
-        ensures { option_map (λ line. line.now) result ≡ fixed_line self }
+    pub(crate) fn fixed_line(&self) -> Option<&'static str>
+        ensures { option_map (λ line. line.now) result ≡ fixed_line self.now }
     {
         match self {
             Trouble::Usage => Some("usage\n"),
@@ -237,6 +242,7 @@ impl Trouble {
             Trouble::BookTooLong { .. } => None,
             Trouble::BadEntry { .. } => None,
             Trouble::Refused { .. } => None,
+            Trouble::DiskInUse => Some("disk: InUse\n"),
             Trouble::DiskFailed => Some("disk: Failed\n"),
             Trouble::DoorFailed => Some("door: Failed\n"),
             Trouble::Cut => Some("input: Cut\n"),
@@ -252,31 +258,31 @@ impl Trouble {
     }
 
     /// The line that says it, where it carries where or what it is, and else nothing.
-    pub(crate) fn made_line(self, alloc: Global) -> Result<String, Memory>
-        ensures { IfOk result (λ text. string_bytes text ≡ made_line self) }
+    pub(crate) fn made_line(&self, alloc: Global) -> Result<String, Memory>
+        ensures { IfOk result (λ text. string_bytes text ≡ made_line self.now) }
     {
         match self {
-            Trouble::Conf { line, what } => at_line(alloc, "conf", line, what.name()),
+            Trouble::Conf { line, what } => at_line(alloc, "conf", *line, what.name()),
             Trouble::Ann { line, what } => {
-                let name = ann_name(alloc, what)?;
-                at_line(alloc, "ann", line, &name)
+                let name = ann_name(alloc, *what)?;
+                at_line(alloc, "ann", *line, &name)
             }
             Trouble::Columns { line, what } => {
-                let name = column_name(alloc, what)?;
-                at_line(alloc, "columns", line, &name)
+                let name = column_name(alloc, *what)?;
+                at_line(alloc, "columns", *line, &name)
             }
-            Trouble::ColumnsOut { fault } => out_line(alloc, fault),
-            Trouble::Roster { fault } => roster_line(alloc, fault),
+            Trouble::ColumnsOut { fault } => out_line(alloc, *fault),
+            Trouble::Roster { fault } => roster_line(alloc, *fault),
             Trouble::NewerVersion { version } => {
-                with_number(alloc, "journal: NewerVersion ", version as u64)
+                with_number(alloc, "journal: NewerVersion ", *version as u64)
             }
-            Trouble::Damaged { number } => with_number(alloc, "journal: Damaged ", number),
+            Trouble::Damaged { number } => with_number(alloc, "journal: Damaged ", *number),
             Trouble::AlreadyThere { length } => {
-                with_number(alloc, "journal: AlreadyThere ", length)
+                with_number(alloc, "journal: AlreadyThere ", *length)
             }
-            Trouble::BookTooLong { bytes } => with_number(alloc, "book: EntryTooLong ", bytes),
-            Trouble::BadEntry { number } => with_number(alloc, "book: BadEntry ", number),
-            Trouble::Refused { refusal } => refused_line(alloc, refusal),
+            Trouble::BookTooLong { bytes } => with_number(alloc, "book: EntryTooLong ", *bytes),
+            Trouble::BadEntry { number } => with_number(alloc, "book: BadEntry ", *number),
+            Trouble::Refused { refusal, named } => refused_line(alloc, *refusal, named.text()),
             _ => Ok(String::new(alloc)),
         }
     }

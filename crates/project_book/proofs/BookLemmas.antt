@@ -220,10 +220,6 @@ stands_still log kept state_old state groups tables_old tables told_old told dou
   kept_is = kept_still log kept told_old told doubt_old doubt stands.legal next stands.kept_is told_same said;
 }
 
--- the log of changes with one more
-pub log_more : (old new : List Change) (e : Change) → new ≡ old ++ e ∷ [] → map happened_of new ≡ map happened_of old ++ happened_of e ∷ []
-log_more old new e is = ap (map happened_of) is ∙ map-append happened_of old (e ∷ [])
-
 -- ---- what a stop leaves where nothing is appended
 
 pub leaves_still : {K : Type 0} (moment : K → ℕ) (left_since : K → ℕ → Option (List (List ℕ)) → Type 0) (k : K) (P : Option (List (List ℕ)) → Type 0)
@@ -270,8 +266,3 @@ pub place_room : (log : List Happened) (old new : ProjectState) (groups : Groupi
 place_room log old new groups tables told doubt is same =
     let low : (after log).place < 2 ^ 64 - 1 = place_low log is.legal is.room in
     subst (λ (s : ProjectState). s.place < 18446744073709551615) (sym (same ∙ is.state_is)) low
-
-pub short_log : (items : List Change) (count : ℕ) → count ≡ length items → count < 4611686018427387904 → length (map happened_of items) < 4611686018427387904
-short_log items count is few =
-    let size : length (map happened_of items) ≡ length items = length-map items happened_of in
-    omega (arith, is, few)

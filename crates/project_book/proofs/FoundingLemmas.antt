@@ -98,9 +98,9 @@ pub entry_founded : (conf conf_in : Configuration) (level : ℕ) (people : List 
 entry_founded conf conf_in level people state entry made same is =
     subst (λ (s : ProjectState). IsEntryMade conf s.level s.people (Ok entry)) is (subst (λ (c : Configuration). IsEntryMade c state.level state.people (Ok entry)) same made)
 
-pub log_founded : (conf conf_in : Configuration) (level : ℕ) (people : List Person) (items : List Change) (change : Change) → items ≡ change ∷ [] → happened_of change ≡ Founded conf_in level people → conf_in ≡ conf → map happened_of items ≡ founded conf level people
-log_founded conf conf_in level people items change is told same =
-    ap (map happened_of) is ∙ (ap (λ (e : Happened). e ∷ []) told ∙ ap (λ (c : Configuration). Founded c level people ∷ []) same)
+pub log_founded : (conf conf_in : Configuration) (level : ℕ) (people : List Person) (log : List Happened) (change : Change) → log ≡ happened_of change ∷ [] → happened_of change ≡ Founded conf_in level people → conf_in ≡ conf → log ≡ founded conf level people
+log_founded conf conf_in level people log change is told same =
+    is ∙ (ap (λ (e : Happened). e ∷ []) told ∙ ap (λ (c : Configuration). Founded c level people ∷ []) same)
 
 -- ---- where nothing was handed to the keeper
 

@@ -1,5 +1,5 @@
 -- What a project begins with.
-use Rattle.std.specs.Prelude.{◌≡◌, ◌||◌, ℕ, Bool, true, false, List, [], ◌∷◌, length, map, nat_lt, Result, Ok, Err, ⊤}
+use Rattle.std.specs.Prelude.{◌≡◌, ◌||◌, ℕ, Bool, true, false, List, [], ◌∷◌, length, nat_lt, Result, Ok, Err, ⊤}
 use Rattle.entry_bytes.specs.declared.person.Person.{Person}
 use Rattle.entry_bytes.specs.Entries.{entry_bytes}
 use Rattle.conf_model.specs.Configurations.{Configuration}
@@ -59,7 +59,7 @@ IsEntryMade conf level people (Err refused) = IsEntryRefusal conf level people r
 
 -- the parts of a beginning are those of a state, with the founding as a change and as an entry (private calls only)
 pub record IsCompleted (s : ProjectState) (change : Change) (entry : List ℕ) (beginning : Beginning) : Type 0 where
-  pub log : beginning.log.items ≡ change ∷ []
+  pub log : beginning.log ≡ happened_of change ∷ []
   pub state : beginning.state.state ≡ s
   pub groups : beginning.groups ≡ grouping_of s.conf.types s.level
   pub tables : AreTables s beginning.tables
@@ -68,7 +68,7 @@ pub record IsCompleted (s : ProjectState) (change : Change) (entry : List ℕ) (
 -- what a project begins with, before its founding is kept (private calls only)
 pub record IsBeginning (conf : Configuration) (level : ℕ) (people : List Person) (beginning : Beginning) : Type 0 where
   pub founding : IsFounding conf level people
-  pub log : map happened_of beginning.log.items ≡ founded conf level people
+  pub log : beginning.log ≡ founded conf level people
   pub state : beginning.state.state ≡ after (founded conf level people)
   pub groups : beginning.groups ≡ grouping_of conf.types level
   pub tables : AreTables (after (founded conf level people)) beginning.tables

@@ -58,7 +58,7 @@ impl<K: Keeper> Book<K> {
     /// where the keeper counted a fault in this call, and `Memory` where memory ran out, where the history has 2^62
     /// changes, or where a list of a request has more than 4,294,967,295 items; then nothing happened. `steps` counts
     /// the looks at labels and tables. Cost, read off the code and not measured: what the request reads or changes;
-    /// a full list of changes, documents or snapshots is moved once in so many additions as it has items.
+    /// a full list of documents or snapshots is moved once in so many additions as it has items.
     pub fn ask<G: Ledger>(&mut self, caller: &Slug, request: Request, steps: &mut Steps<G>) -> Reply
         // The answer and the change are those of the step, or nothing happened, for want of memory or a keeper that failed.
         ensures step { IsStep self.old.log caller.now (asked_of request) (answer_of result) self.new.log }

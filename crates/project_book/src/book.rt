@@ -1,18 +1,18 @@
 //! A project over what keeps its entries.
-ghost use Rattle.std.specs.Prelude.{◌≡◌, map, option_map};
+ghost use Rattle.std.specs.Prelude.{◌≡◌, length, option_map};
 ghost use Rattle.std.specs.Option.{option_copied};
 ghost use Rattle.project_machine.specs.Asking.{IsKeptBy};
 ghost use Rattle.project_machine.specs.History.{after, last};
 ghost use Rattle.project_machine.specs.Legal.{HasRoom, IsLegal};
 ghost use Rattle.project_machine.specs.ProjectState.{snapshot_of};
-ghost use Rattle.project_state.specs.Values.{happened_of};
 ghost use Rattle.project_book.specs.Keeping.{AreTables};
 
+use crate::history::History;
 use kappa_alpha::Tables;
 use label_tracks::Groups;
 use layer_model::Snapshot;
 use project_journal::Keeper;
-use project_state::{BookState, Change, Roster, StoredSnapshot};
+use project_state::{BookState, Roster, StoredSnapshot};
 use std::alloc::Global;
 use std::marker::Model;
 
@@ -30,20 +30,19 @@ fn snapshot_numbered(state: &BookState, number: u64) -> Option<&StoredSnapshot>
 /// A project over what keeps its entries. Contracts see its history, its keeper and its tables of agreement.
 ///
 /// Between two calls the history is a legal one, the tables are those of the state behind it, counted anew, and what
-/// the keeper tells are the entries of the history. A history has at most 2^62 changes.
+/// the keeper tells are the entries of the history. A history has at most 2^62 changes. Clauses alone see them: the
+/// memory of a book is that of its state, its tables and its keeper, however many changes led there.
 #[derive(Drop)]
 pub struct Book<K: Keeper> {
     pub(crate) alloc: Global,
     pub(crate) state: BookState,
     pub(crate) groups: Groups,
     pub(crate) tables: Tables,
-    pub(crate) log: Vec<Change>,
+    pub(crate) log: History,
     pub(crate) keeper: K,
 }
 
 impl<K: Keeper> Model for Book<K> {
-    ghost use Rattle.std.specs.Prelude.{map};
-    ghost use Rattle.project_state.specs.Values.{happened_of};
     ghost use Rattle.project_book.specs.Keeping.{BookValue, Stands};
     ghost use Rattle.project_book.specs.Codes.{book_code};
 
@@ -51,9 +50,9 @@ impl<K: Keeper> Model for Book<K> {
 
     ghost coded = { book_code K.code };
 
-    ghost view = { λ b. record { log = map happened_of b.log.items; keeper = b.keeper; tables = b.tables } };
+    ghost view = { λ b. record { log = b.log; keeper = b.keeper; tables = b.tables } };
 
-    ghost invariant = { λ b. Stands (map happened_of b.log.items) b.state.state b.groups b.tables (K.kept b.keeper) (K.doubt b.keeper) };
+    ghost invariant = { λ b. Stands b.log b.state.state b.groups b.tables (K.kept b.keeper) (K.doubt b.keeper) };
 }
 
 impl<K: Keeper> Book<K> {
@@ -99,11 +98,11 @@ impl<K: Keeper> Book<K> {
         }
     }
 
-    /// All that happened, in turn.
-    pub fn log(&self) -> &[Change]
-        ensures { map happened_of result.now ≡ self.now.log }
+    /// How many changes the history has, the one with which it begins among them.
+    pub fn changes(&self) -> u64
+        ensures { result ≡ length self.now.log }
     {
-        self.log.as_slice()
+        self.log.count()
     }
 
     /// Gives the keeper up.

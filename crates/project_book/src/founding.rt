@@ -1,5 +1,5 @@
 //! How a project begins.
-ghost use Rattle.std.specs.Prelude.{◌≡◌, ◌⊎◌, ℕ, ◌≤◌, ◌∷◌, List, [], None, Some, IfErr, IfOk, IfSome, IsErrOf, OnErr, OnOk, false, length};
+ghost use Rattle.std.specs.Prelude.{◌≡◌, ◌⊎◌, ℕ, ◌≤◌, List, [], None, Some, IfErr, IfOk, IfSome, IsErrOf, OnErr, OnOk, false, length};
 ghost use Rattle.std.specs.Arc.{arc_value};
 ghost use Rattle.label_tracks.specs.Levels.{grouping_of};
 ghost use Rattle.project_journal.specs.Keeper.{IsKeptOrOneMore};
@@ -13,6 +13,7 @@ ghost use Rattle.project_book.specs.Keeping.{AreTables, TellsKeeper};
 use crate::book::Book;
 use crate::bounds::LONGEST_CONF;
 use crate::found_fault::FoundFault;
+use crate::history::History;
 use annotation_conf::write_conf;
 use conf_model::Conf;
 use entry_bytes::entries_have_bytes;
@@ -36,7 +37,7 @@ pub(crate) struct Beginning {
     pub(crate) state: BookState,
     pub(crate) groups: Groups,
     pub(crate) tables: Tables,
-    pub(crate) log: Vec<Change>,
+    pub(crate) log: History,
     pub(crate) entry: Bytes,
 }
 
@@ -69,15 +70,6 @@ fn shared(alloc: Global, conf: Conf) -> Result<Arc<Conf>, Memory>
 {
     let shared = Arc::new(alloc, conf)?;
     Ok(shared)
-}
-
-/// The log of a founding.
-fn log_of(alloc: Global, founding: Change) -> Result<Vec<Change>, Memory>
-    ensures { IfOk result (λ log. log.items ≡ founding ∷ []) }
-{
-    let mut log = Vec::new(alloc);
-    log.push(founding)?;
-    Ok(log)
 }
 
 /// The bytes of the founding of a state, where neither they nor the text of the configuration are too many.
@@ -119,16 +111,16 @@ fn blank_tables(alloc: Global, state: &BookState, groups: &Groups) -> Result<Tab
 pub(crate) fn complete(
     alloc: Global,
     state: BookState,
-    change: Change,
+    change: &Change,
     entry: Bytes,
 ) -> Result<Beginning, Memory>
     requires kept { IsKept state.state }
     requires blank { state.state.documents ≡ [] }
-    ensures { IfOk result (IsCompleted state.state change entry) }
+    ensures { IfOk result (IsCompleted state.state change.now entry) }
 {
     let groups = Groups::of(alloc, state.conf(), state.level())?;
     let tables = blank_tables(alloc, &state, &groups)?;
-    let log = log_of(alloc, change)?;
+    let log = History::of(change);
     Ok(Beginning {
         state,
         groups,
@@ -152,7 +144,7 @@ fn begin(alloc: Global, conf: Conf, roster: Roster, level: u8) -> Result<Beginni
     let state = BookState::founded(alloc, share(&conf)?, roster.copy()?, level);
     let change = founding_change(share(&conf)?, roster, level);
     let entry = founding_entry(alloc, &state, &conf, &change)?;
-    let beginning = complete(alloc, state, change, entry)?;
+    let beginning = complete(alloc, state, &change, entry)?;
     Ok(beginning)
 }
 

@@ -1,5 +1,5 @@
 //! How a change is kept: first all the memory that it takes, then its entry, then the change, which cannot be refused.
-ghost use Rattle.std.specs.Prelude.{◌≡◌, ◌⊎◌, ℕ, ◌+◌, ◌-◌, ◌<◌, ◌≤◌, ◌∷◌, ◌++◌, [], List, Some, None, IfOk, IsErrOf, OnErr, OnOk, vec_capacity, vec_len};
+ghost use Rattle.std.specs.Prelude.{◌≡◌, ◌⊎◌, ℕ, ◌+◌, ◌≤◌, ◌∷◌, ◌++◌, [], List, Some, None, IfOk, IsErrOf, OnErr, OnOk};
 ghost use Rattle.label_tracks.specs.Levels.{grouping_of};
 ghost use Rattle.project_journal.specs.Keeper.{IsKeptOrOneMore};
 ghost use Rattle.project_journal.specs.Stops.{LeavesOnly};
@@ -16,31 +16,21 @@ use kappa_alpha::Tables;
 use label_tracks::Groups;
 use mark_base::{Memory, Steps};
 use project_journal::{Keeper, KeeperFault};
-use project_state::{Act, BookState, Change, TableAct, apply, states_can_be_restored, table_act};
+use project_state::{Act, BookState, TableAct, apply, states_can_be_restored, table_act};
 use project_steps::Kept;
 use std::alloc::Global;
 use std::sync::ledger::Ledger;
 
 /// How many changes a history can have.
-const MOST_CHANGES: usize = 4_611_686_018_427_387_904;
+const MOST_CHANGES: u64 = 4_611_686_018_427_387_904;
 
-/// Room for one more change.
-fn make_log_room(log: &mut Vec<Change>) -> Result<(), Memory>
-    ensures same { log.new.items ≡ log.old.items }
-    ensures room { OnOk result (0 < vec_capacity log.new - vec_len log.new) }
-{
-    log.try_reserve(1)?;
-    Ok(())
-}
-
-/// Takes all the memory of an act, and says what it does to the tables. The project, the tables and the log are as
-/// they were, whether there is memory or not.
+/// Takes all the memory of an act, and says what it does to the tables. The project and the tables are as they were,
+/// whether there is memory or not.
 fn make_ready(
     alloc: Global,
     state: &mut BookState,
     groups: &Groups,
     tables: &mut Tables,
-    log: &mut Vec<Change>,
     act: &Act,
 ) -> Result<TableAct, Memory>
     requires kept { IsKept state.old.state }
@@ -49,14 +39,11 @@ fn make_ready(
     requires fits { FitsRows act.now state.old.state }
     ensures state { state.new.state ≡ state.old.state }
     ensures tables { tables.new ≡ record tables.old { spare = tables.new.spare } }
-    ensures log { log.new.items ≡ log.old.items }
     ensures tabling { IfOk result (IsTableAct state.old.state act.now) }
     ensures memory { OnOk result (HasMemory act.now state.new) }
     ensures spare { OnOk result (1 ≤ tables.new.spare) }
-    ensures room { OnOk result (0 < vec_capacity log.new - vec_len log.new) }
 {
     let tabling = table_act(alloc, state, groups, act)?;
-    make_log_room(log)?;
     tables.reserve()?;
     state.make_room(act)?;
     Ok(tabling)
@@ -83,7 +70,7 @@ impl<K: Keeper> Book<K> {
     {
         states_can_be_restored();
         entries_have_bytes();
-        if self.log.len() >= MOST_CHANGES {
+        if self.log.count() >= MOST_CHANGES {
             return Err(KeeperFault::Memory);
         }
         let Kept { change, entry, act } = kept;
@@ -92,7 +79,6 @@ impl<K: Keeper> Book<K> {
             &mut self.state,
             &self.groups,
             &mut self.tables,
-            &mut self.log,
             &act,
         )?;
         match self.keeper.append(entry.items()) {
@@ -101,7 +87,7 @@ impl<K: Keeper> Book<K> {
         }
         self.state.perform(act);
         apply(&mut self.tables, tabling, steps);
-        self.log.push_reserved(change);
+        self.log.push(&change);
         Ok(())
     }
 }

@@ -27,6 +27,7 @@ mod book;
 mod bounds;
 mod found_fault;
 mod founding;
+mod history;
 mod keeping;
 mod kept_already;
 mod laws;

@@ -76,7 +76,7 @@ impl<K: Keeper> Book<K> {
     /// out, all are freed, by one change more. A refusal gives the keeper back with the entries that it had. Behind
     /// `Keeper`, and there alone, a stop may still leave the freeing, so the journal is to be opened anew from its
     /// file. Cost, read off the code and not measured: the bytes of the entries and what each of the requests costs
-    /// that made them; of a run of pieces twice what `restore` says, and the labels of all rows.
+    /// that made them; of a run of pieces what `restore` says, and the labels of all rows.
     ///
     /// Entries that begin with a run of pieces are opened as the state whose pieces they are. Where no state that can be
     /// restored is read of them, the first piece at fault is named, or the number past the last entry where the run lacks

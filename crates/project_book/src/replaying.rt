@@ -1,18 +1,16 @@
 //! A history that is told again by the entries of a journal, one after another.
-ghost use Rattle.std.specs.Prelude.{◌≡◌, ◌≢◌, ◌<◌, ◌≤◌, ℕ, List, [], ◌∷◌, IfErr, IfNone, IfOk, IfSome, OnOk, Some, false, length, map, slice_get, take, true};
+ghost use Rattle.std.specs.Prelude.{◌≡◌, ◌≢◌, ◌<◌, ◌≤◌, ℕ, List, [], ◌∷◌, IfErr, IfNone, IfOk, IfSome, OnOk, Some, false, length, slice_get, take, true};
 ghost use Rattle.std.specs.Arc.{arc_value};
 ghost use Rattle.project_machine.specs.Legal.{IsFounding, IsSound};
 ghost use Rattle.project_machine.specs.Opening.{IsReplay, freeing_bytes, restored};
-ghost use Rattle.project_machine.specs.ProjectState.{ProjectState};
-ghost use Rattle.project_state.specs.Values.{happened_of};
 ghost use Rattle.project_book.specs.Restoring.Following.{StartsRun};
-ghost use Rattle.project_book.specs.Restoring.Restoring.{IsRun};
 ghost use Rattle.project_state.specs.Entries.Asking.{plain_asking};
 ghost use Rattle.project_book.specs.Founding.{founded};
 ghost use Rattle.project_book.specs.Replaying.{BeginsSo, IsAskedBy, IsAskingOf, IsFoundingBy, IsFreeing, IsMadeBy, IsNextKept, IsReading, IsReplayRefusal, IsTakenUp};
 
 use crate::book::Book;
 use crate::founding::{Beginning, complete, founding_change, share};
+use crate::history::History;
 use crate::kept_already::KeptAlready;
 use crate::open_fault::OpenFault;
 use crate::restoring::{first_fault, restore, run_length};
@@ -217,7 +215,7 @@ fn founded_again(alloc: Global, founding: Founding) -> Result<Book<KeptAlready>,
     } = founding;
     let state = BookState::founded(alloc, share(&conf)?, roster.copy()?, level);
     let change = founding_change(conf, roster, level);
-    let beginning = complete(alloc, state, change, Bytes::from_vec(Vec::new(alloc)))?;
+    let beginning = complete(alloc, state, &change, Bytes::from_vec(Vec::new(alloc)))?;
     let Beginning {
         state,
         groups,
@@ -283,41 +281,40 @@ struct Started {
     count: usize,
 }
 
-/// The log of a state that is restored at its place.
-fn log_of_state(alloc: Global, state: BookState) -> Result<Vec<Change>, Memory>
-    ensures { IfOk result (λ log. map happened_of log.items ≡ restored state.state) }
+/// The history that restores a state at its place. The change shares the state until it is remembered.
+fn history_restoring(alloc: Global, state: &Arc<BookState>) -> Result<History, Memory>
+    ensures { IfOk result (λ log. log ≡ restored (arc_value state.now).state) }
 {
-    let place = state.place();
-    let state = Arc::new(alloc, state)?;
-    let mut log = Vec::new(alloc);
-    log.push(Change::Restored { place, state })?;
-    Ok(log)
+    let change = Change::Restored {
+        place: state.place(),
+        state: state.clone()?,
+    };
+    Ok(History::of(&change))
 }
 
-/// The log of the state whose pieces these entries are, which are read for it.
-fn log_restored(alloc: Global, run: &[Bytes]) -> Result<Option<Vec<Change>>, Memory>
-    ensures { IfOk result (λ found. IfSome found (λ log. (s : ProjectState) → IsRun run.now s → map happened_of log.items ≡ restored s)) }
+/// What was shared, where nobody else owns it any more. `Memory` stands for an owner that is left.
+fn unshared(state: Arc<BookState>) -> Result<BookState, Memory>
+    ensures { IfOk result (λ one. one ≡ arc_value state) }
 {
-    match restore(alloc, run)? {
-        Some(state) => {
-            let log = log_of_state(alloc, state)?;
-            Ok(Some(log))
-        }
-        None => Ok(None),
+    match Arc::try_unwrap(state) {
+        Ok(state) => Ok(state),
+        Err(_) => Err(Memory),
     }
 }
 
-/// A project that begins with a state, of which this is the log.
+/// A project that begins with a state. The history remembers the state, and the project goes on with it: that nobody
+/// else owns it then is not proved.
 fn restored_again<G: Ledger>(
     alloc: Global,
     state: BookState,
-    log: Vec<Change>,
     steps: &mut Steps<G>,
 ) -> Result<Book<KeptAlready>, Memory>
-    requires sound { IsSound state.state }
-    requires log { map happened_of log.items ≡ restored state.state }
+    requires { IsSound state.state }
     ensures { IfOk result (λ book. book.log ≡ restored state.state) }
 {
+    let state = Arc::new(alloc, state)?;
+    let log = history_restoring(alloc, &state)?;
+    let state = unshared(state)?;
     let groups = Groups::of(alloc, state.conf(), state.level())?;
     let tables = tables_of(alloc, &state, &groups, steps)?;
     Ok(Book {
@@ -330,28 +327,8 @@ fn restored_again<G: Ledger>(
     })
 }
 
-/// The project that begins with a state whose pieces these entries are. The history keeps the state as it was, so the
-/// entries are read for it once more.
-#[tactic(auto, using(crate::proofs::RestoredLemmas::replay_restored))]
-fn begun_at<G: Ledger>(
-    alloc: Global,
-    run: &[Bytes],
-    state: BookState,
-    steps: &mut Steps<G>,
-) -> Result<Option<Book<KeptAlready>>, Memory>
-    requires { IsRun run.now state.state }
-    ensures { IfOk result (λ found. IfSome found (λ book. IsReplay run.now book.log)) }
-{
-    match log_restored(alloc, run)? {
-        Some(log) => {
-            let book = restored_again(alloc, state, log, steps)?;
-            Ok(Some(book))
-        }
-        None => Ok(None),
-    }
-}
-
 /// The project that begins with the state whose pieces all these entries are.
+#[tactic(auto, using(crate::proofs::RestoredLemmas::replay_restored))]
 fn begun_of_run<G: Ledger>(
     alloc: Global,
     run: &[Bytes],
@@ -360,7 +337,7 @@ fn begun_of_run<G: Ledger>(
     ensures { IfOk result (λ found. IfSome found (λ book. IsReplay run.now book.log)) }
 {
     match restore(alloc, run)? {
-        Some(state) => begun_at(alloc, run, state, steps),
+        Some(state) => Ok(Some(restored_again(alloc, state, steps)?)),
         None => Ok(None),
     }
 }

@@ -1,18 +1,20 @@
-//! Runs conversations with a project that are data, worked out by hand, and a few connections that are served at once.
+//! Runs connections of one project that are data, worked out by hand, and a few that are served at once.
 //!
-//! The words name case files; `README.md` has their form. In a file `NAME.cases` each line of a conversation is a request,
-//! in a file `NAME.links` a message of HTTP. What differs is printed, and the last line counts: `N passed, M failed`.
+//! The words name case files, whose lines are messages of HTTP; `README.md` has their form. What differs is printed, and the
+//! last line counts: `N passed, M failed`.
 #![tactic(auto)]
 
 ghost use Rattle.std.specs.Prelude.{◌≡◌, ◌<◌};
 
-mod book;
+mod case_fault;
+mod cases;
 mod hall;
 mod links;
+mod people;
 
+use crate::cases::{Case, cases_of};
 use crate::hall::served_at_once;
 use anyhow::{Context, Result};
-use case_words::{Case, cases_of};
 use mark_base::Steps;
 use std::marker::Brand;
 use std::process::ExitCode;
@@ -20,20 +22,10 @@ use std::sync::ledger::{Blank, Ledger};
 use std::{env, fs, str};
 
 /// Runs a case, prints what differs or why it has no form, and says whether it passed.
-fn passes<G: Ledger>(
-    rt: &HostRuntime,
-    case: &Case<'_>,
-    of_links: bool,
-    steps: &mut Steps<G>,
-) -> Result<bool> {
+fn passes<G: Ledger>(rt: &HostRuntime, case: &Case<'_>, steps: &mut Steps<G>) -> Result<bool> {
     let alloc = rt.alloc();
     let name = case.name;
-    let told = if of_links {
-        links::run_case(alloc, case, steps)
-    } else {
-        book::run_case(alloc, case, steps)
-    };
-    match told {
+    match links::run_case(alloc, case, steps) {
         Ok(text) => {
             if !text.is_empty() {
                 println!(rt; "{name}:\n{text}")?;
@@ -51,14 +43,13 @@ fn passes<G: Ledger>(
 fn run_file<G: Ledger>(rt: &HostRuntime, file: &str, steps: &mut Steps<G>) -> Result<(u64, u64)> {
     let bytes = fs::read(rt, file).context("a file cannot be read")?;
     let text = str::from_utf8(bytes.as_slice()).context("a file is not UTF-8")?;
-    let of_links = file.ends_with(".links");
     let mut passed = 0u64;
     let mut failed = 0u64;
     let Ok(cases) = cases_of(rt.alloc(), text) else {
         return Ok((0, 1));
     };
     for case in cases.iter() {
-        if passes(rt, case, of_links, steps)? {
+        if passes(rt, case, steps)? {
             passed = passed.saturating_add(1);
         } else {
             failed = failed.saturating_add(1);

@@ -112,7 +112,7 @@ lists_or_memory log caller why curator (fails_to_keep some is) =
 -- where a curator is refused the layer of an annotator on a document, and something was committed, memory ran out
 pub reads_or_memory : (log : List Happened) (caller name who : List ℕ) (r : BookRefusal) (named : List ℕ) (now : List Happened)
     → is_curator (after log) caller ≡ true → is_there (after log) name ≡ true → is_annotator (after log) who ≡ true
-    → IsStep log caller (ReadLayer name who) (Refused r named) now → r ≢ no.NoLayer → trouble_of r ≡ trouble.Memory
+    → IsStep log caller (ReadLayer name who) (Refused r named) now → r ≢ no.NoLayer → trouble_of r named ≡ trouble.Memory
 reads_or_memory log caller name who r named now curator there annotator (steps is now_is room) other = by ((row_in (after log) name who).revision == 0) refl
   where
     shown : (layer : Annotations) (text : List ℕ) (conf : Configuration) → Refused r named ≡ Layer layer text conf → ⊥
@@ -124,10 +124,10 @@ reads_or_memory log caller name who r named now curator there annotator (steps i
         is ∙ ap (λ (o : Option BookRefusal). (unless (after log) (ReadLayer name who) o (reply (after log) caller (ReadLayer name who)) None).answer)
         (reads (after log) caller name who curator there annotator ∙ ap (λ (b : Bool). when b no.NoLayer) e)
 
-    by : (b : Bool) → ((row_in (after log) name who).revision == 0) ≡ b → trouble_of r ≡ trouble.Memory
+    by : (b : Bool) → ((row_in (after log) name who).revision == 0) ≡ b → trouble_of r named ≡ trouble.Memory
     by true e = absurd (other (refused_same (told true e)))
     by false e = absurd (shown _ _ _ (told false e))
-reads_or_memory log caller name who r named now curator there annotator (wants_memory is now_is) other = ap trouble_of (refused_same is)
+reads_or_memory log caller name who r named now curator there annotator (wants_memory is now_is) other = ap (λ refusal. trouble_of refusal named) (refused_same is)
 reads_or_memory log caller name who r named now curator there annotator (is_not_kept is now_is some room) other =
     none_made (step (after log) caller (ReadLayer name who)).change
     (makes_none (after log) (ReadLayer name who) (refusal (after log) caller (ReadLayer name who)) (reply (after log) caller (ReadLayer name who))) some

@@ -1,4 +1,4 @@
--- What `columns-out BOOK WHO NAME` does: it opens a project, and shows a committed layer as token and label columns.
+-- What `columns-out BOOK WHO NAME` does: it reads a project as its file stands, and shows a committed layer as token and label columns.
 use Rattle.std.specs.Prelude.{◌≡◌, ◌⊎◌, ⊤, ℕ, List, Option, Some}
 use Rattle.conf_model.specs.Configurations.{Configuration}
 use Rattle.layer_model.specs.Annotations.{Annotations}
@@ -10,7 +10,7 @@ use Rattle.program_inputs.specs.declared.trouble.Trouble.{Trouble}
 use Rattle.program_inputs.specs.declared.trouble.Trouble.TheVariants as trouble
 use Rattle.program_inputs.specs.ProjectFiles.ProjectFiles.{NotOpened}
 use Rattle.project_commands.specs.Commands.Requests.{Grants, RefusesTo}
-use Rattle.project_commands.specs.Works.{EndsOn, WorksOn}
+use Rattle.project_commands.specs.Works.{EndsOn, LooksAt}
 
 -- the committed layer of an annotator on a document, as the annotator reads it, fits columns, and these are its columns
 pub record ShowsColumns (log : List Happened) (who name : List ℕ) (bytes : List ℕ) (now : List Happened) : Type 0 where
@@ -41,8 +41,8 @@ abbrev pub NotShown : (log : List Happened) → (who name : List ℕ) → Troubl
 NotShown log who name why = RefusesTo log who (ReadLayer name who) why ⊎ HasNoColumns log who name why
 
 -- what `columns-out` does
-abbrev pub PrintsColumns : (file file_now : Option (List ℕ)) → (who name bytes : List ℕ) → Type 0
-PrintsColumns file file_now who name bytes = WorksOn file file_now (λ log now. ShowsColumns log who name bytes now)
+abbrev pub PrintsColumns : (file : Option (List ℕ)) → (who name bytes : List ℕ) → Type 0
+PrintsColumns file who name bytes = LooksAt file (λ log now. ShowsColumns log who name bytes now)
 
 -- why no columns were printed
 abbrev pub NoColumns : (file : Option (List ℕ)) → (who name : List ℕ) → Trouble → Type 0

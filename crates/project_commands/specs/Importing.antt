@@ -1,10 +1,11 @@
 -- What `import BOOK WHO NAME ANN` does: it opens a project, reads an .ann file for a document of it, and commits the file's layer for an annotator.
-use Rattle.std.specs.Prelude.{◌≡◌, ◌⊎◌, ℕ, List, [], codes, Option, Some, option_map, Result, Ok, Err}
+use Rattle.std.specs.Prelude.{◌≡◌, ◌⊎◌, ℕ, List, [], codes, Option, Some, option_map, Result, Ok, Err, unwrap_or}
 use Rattle.std.specs.Result.{result_ok}
 use Rattle.conf_model.specs.Configurations.{Configuration}
 use Rattle.layer_model.specs.Annotations.{Annotations}
 use Rattle.layer_model.specs.declared.rule.Rule.{Rule}
 use Rattle.layer_core.specs.declared.command.Command.TheVariants.{Load}
+use Rattle.layer_rules.specs.CarriedByRule.{carried_by_rule}
 use Rattle.layer_undo.specs.Desks.{DeskState, layer_of, performed, settled}
 use Rattle.project_machine.specs.declared.book_refusal.BookRefusal.TheVariants as no
 use Rattle.project_machine.specs.Requests.{Asked, Checkout, Commit, Committed, Park, Parked, ReadConf, ReadText, Happened}
@@ -62,7 +63,7 @@ Loads desk layer now = option_map (λ done. done.desk) (result_ok (performed des
 
 -- why a desk does not load a layer: a rule refuses that; or memory ran out
 pub data NotLoaded (desk : DeskState) (layer : Annotations) (why : Trouble) : Type 0 where
-  breaks : (rule : Rule) → performed desk (Load layer) ≡ Err rule → why ≡ trouble.Refused (no.Broken rule) → NotLoaded desk layer why
+  breaks : (rule : Rule) → performed desk (Load layer) ≡ Err rule → why ≡ trouble.Refused (no.Broken rule) (unwrap_or (carried_by_rule desk.conf rule) []) → NotLoaded desk layer why
   lacks_memory : why ≡ trouble.Memory → NotLoaded desk layer why
 
 -- a layer was loaded on a held desk and committed, and the desk goes on from it

@@ -1,4 +1,4 @@
--- What `scores BOOK` does: it opens a project, and prints the exact-match scores of each two annotators.
+-- What `scores BOOK` does: it reads a project as its file stands, and prints the exact-match scores of each two annotators.
 use Rattle.std.specs.Prelude.{◌≡◌, ◌⊎◌, ℕ, ◌==◌, List, length, map, if◌then◌else◌, Option, Some, None}
 use Rattle.layer_model.specs.Annotations.{Annotations}
 use Rattle.match_scores.specs.Standing.{Layers, Standing, posted}
@@ -9,7 +9,7 @@ use Rattle.project_machine.specs.History.{after}
 use Rattle.program_inputs.specs.declared.trouble.Trouble.{Trouble}
 use Rattle.program_inputs.specs.declared.trouble.Trouble.TheVariants.{Memory}
 use Rattle.program_inputs.specs.ProjectFiles.ProjectFiles.{NotOpened}
-use Rattle.project_commands.specs.Works.{EndsOn, WorksOn}
+use Rattle.project_commands.specs.Works.{EndsOn, LooksAt}
 
 -- ---- the layers that are scored
 
@@ -44,8 +44,8 @@ pub record ShowsScores (log : List Happened) (bytes : List ℕ) (now : List Happ
 -- ---- the command
 
 -- what `scores` does
-abbrev pub PrintsScores : (file file_now : Option (List ℕ)) → (bytes : List ℕ) → Type 0
-PrintsScores file file_now bytes = WorksOn file file_now (λ log now. ShowsScores log bytes now)
+abbrev pub PrintsScores : (file : Option (List ℕ)) → (bytes : List ℕ) → Type 0
+PrintsScores file bytes = LooksAt file (λ log now. ShowsScores log bytes now)
 
 -- why no scores were printed: the project was not opened; or it was, and memory ran out, since it refuses its first curator neither the list of its documents nor the layer of an annotator on one of them
 abbrev pub NotScored : (file : Option (List ℕ)) → Trouble → Type 0

@@ -1,4 +1,4 @@
--- What `export BOOK WHO NAME`, `curated BOOK NUMBER` and `agree BOOK` do: they open a project and show a part of it.
+-- What `export BOOK WHO NAME`, `curated BOOK NUMBER` and `agree BOOK` do: they read a project as its file stands and show a part of it.
 use Rattle.std.specs.Prelude.{◌≡◌, ◌⊎◌, ℕ, List, [], ◌++◌, codes, find, Option}
 use Rattle.std.specs.Option.{option_map_or}
 use Rattle.entry_bytes.specs.declared.person.Person.{Person}
@@ -15,7 +15,7 @@ use Rattle.http_answers.specs.Answers.Answers.{curated_layer}
 use Rattle.program_inputs.specs.declared.trouble.Trouble.{Trouble}
 use Rattle.program_inputs.specs.ProjectFiles.ProjectFiles.{NotOpened}
 use Rattle.project_commands.specs.Commands.Requests.{Grants, RefusesTo}
-use Rattle.project_commands.specs.Works.{EndsOn, WorksOn}
+use Rattle.project_commands.specs.Works.{EndsOn, LooksAt}
 
 -- ---- what a project shows
 
@@ -81,24 +81,24 @@ NoAgreement log why = RefusesTo log (curator_in log) ReadPairs why ⊎ NoAlpha l
 -- ---- the commands
 
 -- what `export` does
-abbrev pub Exports : (file file_now : Option (List ℕ)) → (who name bytes : List ℕ) → Type 0
-Exports file file_now who name bytes = WorksOn file file_now (λ log now. ShowsLayer log who name bytes now)
+abbrev pub Exports : (file : Option (List ℕ)) → (who name bytes : List ℕ) → Type 0
+Exports file who name bytes = LooksAt file (λ log now. ShowsLayer log who name bytes now)
 
 -- why no layer was shown
 abbrev pub NotExported : (file : Option (List ℕ)) → (who name : List ℕ) → Trouble → Type 0
 NotExported file who name why = NotOpened file why ⊎ EndsOn file (λ log. RefusesTo log who (ReadLayer name who) why)
 
 -- what `curated` does
-abbrev pub ShowsSnapshot : (file file_now : Option (List ℕ)) → ℕ → (bytes : List ℕ) → Type 0
-ShowsSnapshot file file_now number bytes = WorksOn file file_now (λ log now. ShowsCurated log number bytes now)
+abbrev pub ShowsSnapshot : (file : Option (List ℕ)) → ℕ → (bytes : List ℕ) → Type 0
+ShowsSnapshot file number bytes = LooksAt file (λ log now. ShowsCurated log number bytes now)
 
 -- why no curated layer was shown
 abbrev pub NoSnapshot : (file : Option (List ℕ)) → ℕ → Trouble → Type 0
 NoSnapshot file number why = NotOpened file why ⊎ EndsOn file (λ log. RefusesTo log (curator_in log) (TakeSnapshot number) why)
 
 -- what `agree` does
-abbrev pub Agrees : (file file_now : Option (List ℕ)) → (bytes : List ℕ) → Type 0
-Agrees file file_now bytes = WorksOn file file_now (λ log now. ShowsAgreement log bytes now)
+abbrev pub Agrees : (file : Option (List ℕ)) → (bytes : List ℕ) → Type 0
+Agrees file bytes = LooksAt file (λ log now. ShowsAgreement log bytes now)
 
 -- why no tables were shown
 abbrev pub NotAgreed : (file : Option (List ℕ)) → Trouble → Type 0

@@ -1,7 +1,7 @@
 //! The command `add`: a document more in the project of a file.
 ghost use Rattle.std.specs.Prelude.{◌≡◌, ◌≢◌, ◌≤◌, ◌⊎◌, None, codes, IfErr, IfOk, IsErrOf, MatchResult, OnOk};
 ghost use Rattle.mark_base.specs.Streams.{TellsFault};
-ghost use Rattle.named_disks.specs.NamedDisks.{IsIn, KeepsOthers, reads_as};
+ghost use Rattle.named_disks.specs.NamedDisks.{IsIn, KeepsOthers, is_there, reads_as};
 ghost use Rattle.project_book.specs.Keeping.{TellsKeeper};
 ghost use Rattle.program_inputs.specs.Troubles.{with_number};
 ghost use Rattle.project_commands.specs.Adding.{Adds, AddsHere, NotAdded, NotAddedHere};
@@ -43,6 +43,7 @@ fn add_here<F: Folder, K: Keeper, G: Ledger>(
     ensures cause { TellsFault (IsErrOf result Trouble.FileFailed) (F.folder_faults folder.old) (F.folder_faults folder.new) }
     ensures no_read { IfErr result (λ trouble. trouble ≢ Trouble.ReadFault) }
     ensures no_write { IfErr result (λ trouble. trouble ≢ Trouble.WriteFault) }
+    ensures no_use { IfErr result (λ trouble. trouble ≢ Trouble.DiskInUse) }
 {
     let text = read_text_file(alloc, folder, text)?;
     let tokens = match add_text(project, caller, name, text, steps) {
@@ -72,8 +73,10 @@ pub fn add_document<F: Folder, D: Disks, G: Ledger>(
     ensures told { MatchResult result (Adds (reads_as (D.stored disks.old) book.now) (reads_as (D.stored disks.new) book.now) (F.file folder.old text.now) caller.now name) (NotAdded (reads_as (D.stored disks.old) book.now) (F.file folder.old text.now) caller.now name (F.folder_faults folder.old) (F.folder_faults folder.new)) }
     ensures taken_back { IsIn (D.out disks.new) book.now }
     ensures others { KeepsOthers book.now (D.stored disks.old) (D.out disks.old) (D.stored disks.new) (D.out disks.new) }
+    ensures none_made { is_there (D.stored disks.new) book.now ≡ is_there (D.stored disks.old) book.now }
     ensures stays { D.faultless disks.old → D.faultless disks.new }
     ensures never { D.faultless disks.old → IsErrOf result Trouble.DiskFailed → ⊥ }
+    ensures free { D.faultless disks.old → IsErrOf result Trouble.DiskInUse → ⊥ }
     ensures later { F.folder_faults folder.old ≤ F.folder_faults folder.new }
     ensures cause { TellsFault (IsErrOf result Trouble.FileFailed) (F.folder_faults folder.old) (F.folder_faults folder.new) }
     ensures no_read { IfErr result (λ trouble. trouble ≢ Trouble.ReadFault) }

@@ -1,6 +1,6 @@
 //! The command `agree`: both tables of agreement of the project of a file.
 ghost use Rattle.std.specs.Prelude.{◌≡◌, ◌≢◌, ◌++◌, None, IfErr, IfOk, IsErrOf, MatchResult, OnOk, codes};
-ghost use Rattle.named_disks.specs.NamedDisks.{IsIn, KeepsOthers, reads_as};
+ghost use Rattle.named_disks.specs.NamedDisks.{IsIn, KeepsAll, reads_as};
 ghost use Rattle.project_book.specs.Keeping.{TellsKeeper};
 ghost use Rattle.project_machine.specs.Requests.{ReadAlpha, ReadPairs};
 ghost use Rattle.project_commands.specs.Commands.Requests.{RefusesTo};
@@ -11,7 +11,7 @@ use crate::showing::curator_in;
 use agreement_report::{alpha_csv, pairs_csv};
 use mark_base::{Bytes, Memory, Slug, Steps};
 use named_disks::Disks;
-use program_inputs::{Trouble, give_project_back, open_project};
+use program_inputs::{Trouble, look_at_project};
 use project_book::{Book, Reply, Request};
 use project_journal::Keeper;
 use std::alloc::Global;
@@ -31,6 +31,7 @@ fn pairs_here<K: Keeper, G: Ledger>(
     ensures no_file { IfErr result (λ trouble. trouble ≢ Trouble.FileFailed) }
     ensures no_read { IfErr result (λ trouble. trouble ≢ Trouble.ReadFault) }
     ensures no_write { IfErr result (λ trouble. trouble ≢ Trouble.WriteFault) }
+    ensures no_use { IfErr result (λ trouble. trouble ≢ Trouble.DiskInUse) }
 {
     match ask_granted(project, caller, Request::Pairs, steps)? {
         Reply::Pairs(names, lines) => {
@@ -55,6 +56,7 @@ fn alpha_here<K: Keeper, G: Ledger>(
     ensures no_file { IfErr result (λ trouble. trouble ≢ Trouble.FileFailed) }
     ensures no_read { IfErr result (λ trouble. trouble ≢ Trouble.ReadFault) }
     ensures no_write { IfErr result (λ trouble. trouble ≢ Trouble.WriteFault) }
+    ensures no_use { IfErr result (λ trouble. trouble ≢ Trouble.DiskInUse) }
 {
     match ask_granted(project, caller, Request::Alpha, steps)? {
         Reply::Alpha(line) => {
@@ -89,6 +91,7 @@ fn agreement_here<K: Keeper, G: Ledger>(
     ensures no_file { IfErr result (λ trouble. trouble ≢ Trouble.FileFailed) }
     ensures no_read { IfErr result (λ trouble. trouble ≢ Trouble.ReadFault) }
     ensures no_write { IfErr result (λ trouble. trouble ≢ Trouble.WriteFault) }
+    ensures no_use { IfErr result (λ trouble. trouble ≢ Trouble.DiskInUse) }
 {
     let caller = curator_in(project)?;
     let pairs = match pairs_here(alloc, project, &caller, steps) {
@@ -103,8 +106,8 @@ fn agreement_here<K: Keeper, G: Ledger>(
     Ok(tables)
 }
 
-/// `agree BOOK`: opens the project of a file, and gives both tables of agreement with an empty line between, as the first
-/// curator by name reads them. Cost: opening the project, and the tables.
+/// `agree BOOK`: reads the project of a file as it stands, and gives both tables of agreement with an empty line between, as the first
+/// curator by name reads them. Cost: reading the project, and the tables.
 pub fn show_agreement<D: Disks, G: Ledger>(
     alloc: Global,
     book: &str,
@@ -112,19 +115,17 @@ pub fn show_agreement<D: Disks, G: Ledger>(
     steps: &mut Steps<G>,
 ) -> Result<Bytes, Trouble>
     requires { IsIn (D.out disks.old) book.now }
-    ensures told { MatchResult result (Agrees (reads_as (D.stored disks.old) book.now) (reads_as (D.stored disks.new) book.now)) (NotAgreed (reads_as (D.stored disks.old) book.now)) }
-    ensures taken_back { IsIn (D.out disks.new) book.now }
-    ensures others { KeepsOthers book.now (D.stored disks.old) (D.out disks.old) (D.stored disks.new) (D.out disks.new) }
+    ensures told { MatchResult result (Agrees (reads_as (D.stored disks.old) book.now)) (NotAgreed (reads_as (D.stored disks.old) book.now)) }
+    ensures kept { KeepsAll (D.stored disks.old) (D.out disks.old) (D.stored disks.new) (D.out disks.new) }
     ensures stays { D.faultless disks.old → D.faultless disks.new }
     ensures never { D.faultless disks.old → IsErrOf result Trouble.DiskFailed → ⊥ }
+    ensures free { D.faultless disks.old → IsErrOf result Trouble.DiskInUse → ⊥ }
     ensures no_file { IfErr result (λ trouble. trouble ≢ Trouble.FileFailed) }
     ensures no_read { IfErr result (λ trouble. trouble ≢ Trouble.ReadFault) }
     ensures no_write { IfErr result (λ trouble. trouble ≢ Trouble.WriteFault) }
 {
-    let mut project = open_project(alloc, disks, book)?;
-    let found = agreement_here(alloc, &mut project, steps);
-    give_project_back(disks, book, project);
-    match found {
+    let mut project = look_at_project(alloc, disks, book)?;
+    match agreement_here(alloc, &mut project, steps) {
         Ok(tables) => Ok(tables),
         Err(why) => Err(why),
     }

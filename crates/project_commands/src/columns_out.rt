@@ -1,7 +1,7 @@
 //! The command `columns-out`: a layer of the project of a file as token and label columns.
 ghost use Rattle.std.specs.Prelude.{◌≡◌, ◌≢◌, None, IfErr, IfOk, IsErrOf, MatchResult, OnOk, length};
 ghost use Rattle.std.specs.Arc.{arc_value};
-ghost use Rattle.named_disks.specs.NamedDisks.{IsIn, KeepsOthers, reads_as};
+ghost use Rattle.named_disks.specs.NamedDisks.{IsIn, KeepsAll, reads_as};
 ghost use Rattle.project_book.specs.Keeping.{TellsKeeper};
 ghost use Rattle.layer_rules.specs.WellFormed.{IsWellFormed};
 ghost use Rattle.token_columns.specs.Columns.{columns};
@@ -11,7 +11,7 @@ ghost use Rattle.project_commands.specs.ColumnsOut.{LacksColumns, NoColumns, Not
 use crate::showing::{LayerRead, read_layer};
 use mark_base::{Bytes, Slug, Steps};
 use named_disks::Disks;
-use program_inputs::{Trouble, give_project_back, open_project};
+use program_inputs::{Trouble, look_at_project};
 use project_book::Book;
 use project_journal::Keeper;
 use std::alloc::Global;
@@ -28,6 +28,7 @@ fn columns_of(alloc: Global, read: &LayerRead) -> Result<Bytes, Trouble>
     ensures no_file { IfErr result (λ trouble. trouble ≢ Trouble.FileFailed) }
     ensures no_read { IfErr result (λ trouble. trouble ≢ Trouble.ReadFault) }
     ensures no_write { IfErr result (λ trouble. trouble ≢ Trouble.WriteFault) }
+    ensures no_use { IfErr result (λ trouble. trouble ≢ Trouble.DiskInUse) }
 {
     match column_bytes(alloc, &read.layer, &read.doc, &read.conf) {
         Ok(bytes) => Ok(bytes),
@@ -51,6 +52,7 @@ fn columns_here<K: Keeper, G: Ledger>(
     ensures no_file { IfErr result (λ trouble. trouble ≢ Trouble.FileFailed) }
     ensures no_read { IfErr result (λ trouble. trouble ≢ Trouble.ReadFault) }
     ensures no_write { IfErr result (λ trouble. trouble ≢ Trouble.WriteFault) }
+    ensures no_use { IfErr result (λ trouble. trouble ≢ Trouble.DiskInUse) }
 {
     let owner = who.copy()?;
     let read = match read_layer(project, who, name, owner, steps) {
@@ -63,9 +65,9 @@ fn columns_here<K: Keeper, G: Ledger>(
     }
 }
 
-/// `columns-out BOOK WHO NAME`: opens the project of a file, and gives the token and label columns of the committed layer
+/// `columns-out BOOK WHO NAME`: reads the project of a file as it stands, and gives the token and label columns of the committed layer
 /// of an annotator on a document, as the annotator reads it. A layer that columns cannot show is told by its first fault.
-/// Cost: opening the project, and the columns.
+/// Cost: reading the project, and the columns.
 pub fn show_columns<D: Disks, G: Ledger>(
     alloc: Global,
     book: &str,
@@ -75,19 +77,17 @@ pub fn show_columns<D: Disks, G: Ledger>(
     steps: &mut Steps<G>,
 ) -> Result<Bytes, Trouble>
     requires { IsIn (D.out disks.old) book.now }
-    ensures told { MatchResult result (PrintsColumns (reads_as (D.stored disks.old) book.now) (reads_as (D.stored disks.new) book.now) who.now name) (NoColumns (reads_as (D.stored disks.old) book.now) who.now name) }
-    ensures taken_back { IsIn (D.out disks.new) book.now }
-    ensures others { KeepsOthers book.now (D.stored disks.old) (D.out disks.old) (D.stored disks.new) (D.out disks.new) }
+    ensures told { MatchResult result (PrintsColumns (reads_as (D.stored disks.old) book.now) who.now name) (NoColumns (reads_as (D.stored disks.old) book.now) who.now name) }
+    ensures kept { KeepsAll (D.stored disks.old) (D.out disks.old) (D.stored disks.new) (D.out disks.new) }
     ensures stays { D.faultless disks.old → D.faultless disks.new }
     ensures never { D.faultless disks.old → IsErrOf result Trouble.DiskFailed → ⊥ }
+    ensures free { D.faultless disks.old → IsErrOf result Trouble.DiskInUse → ⊥ }
     ensures no_file { IfErr result (λ trouble. trouble ≢ Trouble.FileFailed) }
     ensures no_read { IfErr result (λ trouble. trouble ≢ Trouble.ReadFault) }
     ensures no_write { IfErr result (λ trouble. trouble ≢ Trouble.WriteFault) }
 {
-    let mut project = open_project(alloc, disks, book)?;
-    let found = columns_here(alloc, &mut project, who, name, steps);
-    give_project_back(disks, book, project);
-    match found {
+    let mut project = look_at_project(alloc, disks, book)?;
+    match columns_here(alloc, &mut project, who, name, steps) {
         Ok(lines) => Ok(lines),
         Err(why) => Err(why),
     }

@@ -1,6 +1,6 @@
 //! The command `compact`: another file that begins with the state of the project of a file.
 ghost use Rattle.std.specs.Prelude.{◌≡◌, ◌≢◌, ◌⊎◌, ◌++◌, false, All, IfErr, IfOk, IsErrOf, MatchResult, codes, decimal};
-ghost use Rattle.named_disks.specs.NamedDisks.{IsIn, KeepsNames, KeepsOthers, reads_as};
+ghost use Rattle.named_disks.specs.NamedDisks.{IsIn, KeepsAll, KeepsOthers, reads_as};
 ghost use Rattle.project_journal.specs.Keeper.{IsEntry};
 ghost use Rattle.project_machine.specs.ProjectState.{is_some_out};
 ghost use Rattle.project_machine.specs.History.{after, encoded, last};
@@ -10,7 +10,7 @@ ghost use Rattle.project_commands.specs.Compacting.{Compacts, NotCompacted, Tell
 
 use mark_base::{Bytes, Memory};
 use named_disks::Disks;
-use program_inputs::{Trouble, give_project_back, make_file, open_project};
+use program_inputs::{Trouble, look_at_project, make_file};
 use project_book::Book;
 use project_journal::Keeper;
 use std::alloc::Global;
@@ -39,21 +39,17 @@ fn state_of<K: Keeper>(project: &Book<K>) -> Result<Told, Memory>
 /// The state of the project of a file.
 fn state_in<D: Disks>(alloc: Global, book: &str, disks: &mut D) -> Result<Told, Trouble>
     requires { IsIn (D.out disks.old) book.now }
-    ensures state { IfOk result (λ told. TellsState (reads_as (D.stored disks.old) book.now) (reads_as (D.stored disks.new) book.now) told.pieces.items told.place) }
+    ensures state { IfOk result (λ told. TellsState (reads_as (D.stored disks.old) book.now) told.pieces.items told.place) }
     ensures entries { IfOk result (λ told. All IsEntry told.pieces.items) }
     ensures refused { IfErr result (NotOpened (reads_as (D.stored disks.old) book.now)) }
-    ensures taken_back { IsIn (D.out disks.new) book.now }
-    ensures others { KeepsOthers book.now (D.stored disks.old) (D.out disks.old) (D.stored disks.new) (D.out disks.new) }
+    ensures kept { KeepsAll (D.stored disks.old) (D.out disks.old) (D.stored disks.new) (D.out disks.new) }
     ensures stays { D.faultless disks.old → D.faultless disks.new }
     ensures never { D.faultless disks.old → IsErrOf result Trouble.DiskFailed → ⊥ }
+    ensures free { D.faultless disks.old → IsErrOf result Trouble.DiskInUse → ⊥ }
 {
-    let project = open_project(alloc, disks, book)?;
-    let told = state_of(&project);
-    give_project_back(disks, book, project);
-    match told {
-        Ok(told) => Ok(told),
-        Err(Memory) => Err(Trouble::Memory),
-    }
+    let project = look_at_project(alloc, disks, book)?;
+    let told = state_of(&project)?;
+    Ok(told)
 }
 
 /// The line that tells a place.
@@ -64,11 +60,11 @@ fn place_line(alloc: Global, place: u64) -> Result<Bytes, Memory>
     Ok(Bytes::from_vec(line.into_bytes()))
 }
 
-/// `compact BOOK MADE`: opens the project of a file, makes of another file a journal that begins with the project's state
-/// in place of its history, and gives the line that tells its place.
+/// `compact BOOK MADE`: reads the project of a file as it stands, makes of another file a journal that begins with the
+/// project's state in place of its history, and gives the line that tells its place.
 ///
 /// The other file has to be absent or empty, else `AlreadyThere`. It is as it was behind a refusal, but for `DiskFailed`.
-/// Nothing of the first file changes but that layers that were out are freed. Cost: opening the project, and its state.
+/// The first file stays as it is; a layer that is out there is free in the other. Cost: reading the project, and its state.
 pub fn compact<D: Disks>(
     alloc: Global,
     book: &str,
@@ -78,12 +74,12 @@ pub fn compact<D: Disks>(
     requires book_in { IsIn (D.out disks.old) book.now }
     requires made_in { IsIn (D.out disks.old) made.now }
     requires apart { book.now ≢ made.now }
-    ensures told { MatchResult result (Compacts (reads_as (D.stored disks.old) book.now) (reads_as (D.stored disks.new) book.now) (reads_as (D.stored disks.new) made.now)) (NotCompacted (reads_as (D.stored disks.old) book.now) (reads_as (D.stored disks.old) made.now)) }
-    ensures book_back { IsIn (D.out disks.new) book.now }
+    ensures told { MatchResult result (Compacts (reads_as (D.stored disks.old) book.now) (reads_as (D.stored disks.new) made.now)) (NotCompacted (reads_as (D.stored disks.old) book.now) (reads_as (D.stored disks.old) made.now)) }
     ensures made_back { IsIn (D.out disks.new) made.now }
-    ensures others { KeepsNames (λ name. (name ≡ book.now) ⊎ (name ≡ made.now) → ⊥) (D.stored disks.old) (D.out disks.old) (D.stored disks.new) (D.out disks.new) }
+    ensures others { KeepsOthers made.now (D.stored disks.old) (D.out disks.old) (D.stored disks.new) (D.out disks.new) }
     ensures stays { D.faultless disks.old → D.faultless disks.new }
     ensures never { D.faultless disks.old → IsErrOf result Trouble.DiskFailed → ⊥ }
+    ensures free { D.faultless disks.old → IsErrOf result Trouble.DiskInUse → ⊥ }
     ensures no_file { IfErr result (λ trouble. trouble ≢ Trouble.FileFailed) }
     ensures no_read { IfErr result (λ trouble. trouble ≢ Trouble.ReadFault) }
     ensures no_write { IfErr result (λ trouble. trouble ≢ Trouble.WriteFault) }

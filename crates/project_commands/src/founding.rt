@@ -57,6 +57,7 @@ fn found_there<D: Disks>(
     ensures others { KeepsOthers book.now (D.stored disks.old) (D.out disks.old) (D.stored disks.new) (D.out disks.new) }
     ensures stays { D.faultless disks.old → D.faultless disks.new }
     ensures never { D.faultless disks.old → IsErrOf result Trouble.DiskFailed → ⊥ }
+    ensures free { D.faultless disks.old → IsErrOf result Trouble.DiskInUse → ⊥ }
 {
     let project = found_project(alloc, disks, book, conf, roster, level)?;
     give_project_back(disks, book, project);
@@ -84,6 +85,7 @@ pub fn found_in_file<F: Folder, D: Disks>(
     ensures others { KeepsOthers book.now (D.stored disks.old) (D.out disks.old) (D.stored disks.new) (D.out disks.new) }
     ensures stays { D.faultless disks.old → D.faultless disks.new }
     ensures never { D.faultless disks.old → IsErrOf result Trouble.DiskFailed → ⊥ }
+    ensures free { D.faultless disks.old → IsErrOf result Trouble.DiskInUse → ⊥ }
     ensures later { F.folder_faults folder.old ≤ F.folder_faults folder.new }
     ensures cause { TellsFault (IsErrOf result Trouble.FileFailed) (F.folder_faults folder.old) (F.folder_faults folder.new) }
     ensures no_read { IfErr result (λ trouble. trouble ≢ Trouble.ReadFault) }

@@ -1,8 +1,9 @@
 //! The command `import`: the layer of an .ann file is committed for an annotator of the project of a file.
-ghost use Rattle.std.specs.Prelude.{◌≡◌, ◌≢◌, ◌≤◌, None, codes, IfErr, IfOk, IsErrOf, MatchResult, OnOk};
+ghost use Rattle.std.specs.Prelude.{◌≡◌, ◌≢◌, ◌≤◌, [], None, codes, unwrap_or, IfErr, IfOk, IsErrOf, MatchResult, OnOk};
 ghost use Rattle.std.specs.Arc.{arc_value};
 ghost use Rattle.mark_base.specs.Streams.{TellsFault};
-ghost use Rattle.named_disks.specs.NamedDisks.{IsIn, KeepsOthers, reads_as};
+ghost use Rattle.named_disks.specs.NamedDisks.{IsIn, KeepsOthers, is_there, reads_as};
+ghost use Rattle.layer_rules.specs.CarriedByRule.{carried_by_rule};
 ghost use Rattle.layer_undo.specs.Desks.{layer_of, settled};
 ghost use Rattle.project_machine.specs.Requests as answers;
 ghost use Rattle.project_machine.specs.Requests.{Commit, Committed, Parked, ReadConf, ReadText};
@@ -18,8 +19,9 @@ use annotation_http::{Held, park_request};
 use char_documents::Doc;
 use conf_model::Conf;
 use layer_core::{Command, Refusal};
-use layer_model::Layer;
-use mark_base::{Bytes, Memory, Slug, Steps};
+use layer_model::{Layer, Rule};
+use layer_rules::carried_by_rule;
+use mark_base::{Bytes, Memory, Slug, Steps, Text};
 use named_disks::Disks;
 use program_inputs::{
     Folder, Trouble, give_project_back, open_project, read_ann_file, with_number,
@@ -45,6 +47,7 @@ fn read_conf<K: Keeper, G: Ledger>(
     ensures no_file { IfErr result (λ trouble. trouble ≢ Trouble.FileFailed) }
     ensures no_read { IfErr result (λ trouble. trouble ≢ Trouble.ReadFault) }
     ensures no_write { IfErr result (λ trouble. trouble ≢ Trouble.WriteFault) }
+    ensures no_use { IfErr result (λ trouble. trouble ≢ Trouble.DiskInUse) }
 {
     match ask_granted(project, caller, Request::ReadConf, steps)? {
         Reply::Conf(conf) => Ok(conf),
@@ -66,6 +69,7 @@ fn read_text<K: Keeper, G: Ledger>(
     ensures no_file { IfErr result (λ trouble. trouble ≢ Trouble.FileFailed) }
     ensures no_read { IfErr result (λ trouble. trouble ≢ Trouble.ReadFault) }
     ensures no_write { IfErr result (λ trouble. trouble ≢ Trouble.WriteFault) }
+    ensures no_use { IfErr result (λ trouble. trouble ≢ Trouble.DiskInUse) }
 {
     match ask_granted(project, caller, Request::ReadText { doc }, steps)? {
         Reply::Text(text) => Ok(text),
@@ -94,6 +98,7 @@ fn read_schema<K: Keeper, G: Ledger>(
     ensures no_file { IfErr result (λ trouble. trouble ≢ Trouble.FileFailed) }
     ensures no_read { IfErr result (λ trouble. trouble ≢ Trouble.ReadFault) }
     ensures no_write { IfErr result (λ trouble. trouble ≢ Trouble.WriteFault) }
+    ensures no_use { IfErr result (λ trouble. trouble ≢ Trouble.DiskInUse) }
 {
     let conf = match read_conf(project, caller, steps) {
         Ok(conf) => conf,
@@ -125,6 +130,7 @@ fn read_layer<F: Folder, K: Keeper, G: Ledger>(
     ensures cause { TellsFault (IsErrOf result Trouble.FileFailed) (F.folder_faults folder.old) (F.folder_faults folder.new) }
     ensures no_read { IfErr result (λ trouble. trouble ≢ Trouble.ReadFault) }
     ensures no_write { IfErr result (λ trouble. trouble ≢ Trouble.WriteFault) }
+    ensures no_use { IfErr result (λ trouble. trouble ≢ Trouble.DiskInUse) }
 {
     let schema = match read_schema(project, caller, doc, steps) {
         Ok(schema) => schema,
@@ -138,8 +144,18 @@ fn read_layer<F: Folder, K: Keeper, G: Ledger>(
 
 // ---- what is done with the layer
 
+/// What a rule names by which a desk refuses.
+fn named_by(alloc: Global, conf: &Conf, rule: Rule) -> Result<Text, Memory>
+    ensures { IfOk result (λ named. named ≡ unwrap_or (carried_by_rule conf.now rule) []) }
+{
+    match carried_by_rule(alloc, conf, rule)? {
+        Some(named) => Ok(named),
+        None => Ok(Text::from_string(String::new(alloc))),
+    }
+}
+
 /// Loads a layer on a held desk.
-fn load(held: &mut Held, layer: Layer) -> Result<(), Trouble>
+fn load(alloc: Global, held: &mut Held, layer: Layer) -> Result<(), Trouble>
     ensures loaded { OnOk result (Loads held.old.desk layer held.new.desk) }
     ensures refused { IfErr result (NotLoaded held.old.desk layer) }
     ensures same { (held.new.who ≡ held.old.who) × (held.new.doc ≡ held.old.doc) × (held.new.hold ≡ held.old.hold) }
@@ -147,12 +163,17 @@ fn load(held: &mut Held, layer: Layer) -> Result<(), Trouble>
     ensures no_file { IfErr result (λ trouble. trouble ≢ Trouble.FileFailed) }
     ensures no_read { IfErr result (λ trouble. trouble ≢ Trouble.ReadFault) }
     ensures no_write { IfErr result (λ trouble. trouble ≢ Trouble.WriteFault) }
+    ensures no_use { IfErr result (λ trouble. trouble ≢ Trouble.DiskInUse) }
 {
     match held.desk.perform(Command::Load { layer }) {
         Ok(_) => Ok(()),
-        Err(Refusal::Rule(rule)) => Err(Trouble::Refused {
-            refusal: BookRefusal::Broken(rule),
-        }),
+        Err(Refusal::Rule(rule)) => {
+            let named = named_by(alloc, &held.conf, rule)?;
+            Err(Trouble::Refused {
+                refusal: BookRefusal::Broken(rule),
+                named,
+            })
+        }
         Err(Refusal::Memory) => Err(Trouble::Memory),
     }
 }
@@ -182,6 +203,7 @@ fn commit_layer<K: Keeper, G: Ledger>(
     ensures no_file { IfErr result (λ trouble. trouble ≢ Trouble.FileFailed) }
     ensures no_read { IfErr result (λ trouble. trouble ≢ Trouble.ReadFault) }
     ensures no_write { IfErr result (λ trouble. trouble ≢ Trouble.WriteFault) }
+    ensures no_use { IfErr result (λ trouble. trouble ≢ Trouble.DiskInUse) }
 {
     let request = commit_request(held, layer)?;
     match ask_granted(project, &held.who, request, steps)? {
@@ -204,6 +226,7 @@ fn commit<K: Keeper, G: Ledger>(
     ensures no_file { IfErr result (λ trouble. trouble ≢ Trouble.FileFailed) }
     ensures no_read { IfErr result (λ trouble. trouble ≢ Trouble.ReadFault) }
     ensures no_write { IfErr result (λ trouble. trouble ≢ Trouble.WriteFault) }
+    ensures no_use { IfErr result (λ trouble. trouble ≢ Trouble.DiskInUse) }
 {
     let layer = held.desk.shared()?;
     match commit_layer(project, held, &layer, steps) {
@@ -217,6 +240,7 @@ fn commit<K: Keeper, G: Ledger>(
 
 /// Loads a layer on a held desk and commits it.
 fn load_and_commit<K: Keeper, G: Ledger>(
+    alloc: Global,
     project: &mut Book<K>,
     held: &mut Held,
     layer: Layer,
@@ -230,8 +254,9 @@ fn load_and_commit<K: Keeper, G: Ledger>(
     ensures no_file { IfErr result (λ trouble. trouble ≢ Trouble.FileFailed) }
     ensures no_read { IfErr result (λ trouble. trouble ≢ Trouble.ReadFault) }
     ensures no_write { IfErr result (λ trouble. trouble ≢ Trouble.WriteFault) }
+    ensures no_use { IfErr result (λ trouble. trouble ≢ Trouble.DiskInUse) }
 {
-    match load(held, layer) {
+    match load(alloc, held, layer) {
         Ok(()) => {}
         Err(why) => return Err(why),
     }
@@ -254,6 +279,7 @@ fn park<K: Keeper, G: Ledger>(
     ensures no_file { IfErr result (λ trouble. trouble ≢ Trouble.FileFailed) }
     ensures no_read { IfErr result (λ trouble. trouble ≢ Trouble.ReadFault) }
     ensures no_write { IfErr result (λ trouble. trouble ≢ Trouble.WriteFault) }
+    ensures no_use { IfErr result (λ trouble. trouble ≢ Trouble.DiskInUse) }
 {
     let request = park_request(held)?;
     match ask_granted(project, &held.who, request, steps)? {
@@ -280,12 +306,13 @@ fn import_layer<K: Keeper, G: Ledger>(
     ensures no_file { IfErr result (λ trouble. trouble ≢ Trouble.FileFailed) }
     ensures no_read { IfErr result (λ trouble. trouble ≢ Trouble.ReadFault) }
     ensures no_write { IfErr result (λ trouble. trouble ≢ Trouble.WriteFault) }
+    ensures no_use { IfErr result (λ trouble. trouble ≢ Trouble.DiskInUse) }
 {
     let mut held = match check_out(alloc, project, who, name, steps) {
         Ok(held) => held,
         Err(why) => return Err(why),
     };
-    let committed = load_and_commit(project, &mut held, layer, steps);
+    let committed = load_and_commit(alloc, project, &mut held, layer, steps);
     let parked = park(project, &held, steps);
     let revision = match committed {
         Ok(revision) => revision,
@@ -326,6 +353,7 @@ fn import_here<F: Folder, K: Keeper, G: Ledger>(
     ensures cause { TellsFault (IsErrOf result Trouble.FileFailed) (F.folder_faults folder.old) (F.folder_faults folder.new) }
     ensures no_read { IfErr result (λ trouble. trouble ≢ Trouble.ReadFault) }
     ensures no_write { IfErr result (λ trouble. trouble ≢ Trouble.WriteFault) }
+    ensures no_use { IfErr result (λ trouble. trouble ≢ Trouble.DiskInUse) }
 {
     let doc = name.copy()?;
     let layer = match read_layer(alloc, project, &who, doc, ann, folder, steps) {
@@ -360,8 +388,10 @@ pub fn import_file<F: Folder, D: Disks, G: Ledger>(
     ensures told { MatchResult result (Imports (reads_as (D.stored disks.old) book.now) (reads_as (D.stored disks.new) book.now) who name (F.file folder.old ann.now)) (NotImported (reads_as (D.stored disks.old) book.now) who name (F.file folder.old ann.now) (F.folder_faults folder.old) (F.folder_faults folder.new)) }
     ensures taken_back { IsIn (D.out disks.new) book.now }
     ensures others { KeepsOthers book.now (D.stored disks.old) (D.out disks.old) (D.stored disks.new) (D.out disks.new) }
+    ensures none_made { is_there (D.stored disks.new) book.now ≡ is_there (D.stored disks.old) book.now }
     ensures stays { D.faultless disks.old → D.faultless disks.new }
     ensures never { D.faultless disks.old → IsErrOf result Trouble.DiskFailed → ⊥ }
+    ensures free { D.faultless disks.old → IsErrOf result Trouble.DiskInUse → ⊥ }
     ensures later { F.folder_faults folder.old ≤ F.folder_faults folder.new }
     ensures cause { TellsFault (IsErrOf result Trouble.FileFailed) (F.folder_faults folder.old) (F.folder_faults folder.new) }
     ensures no_read { IfErr result (λ trouble. trouble ≢ Trouble.ReadFault) }

@@ -2,7 +2,7 @@
 ghost use Rattle.std.specs.Prelude.{◌≡◌, ◌≢◌, ◌++◌, ◌∷◌, ◌<◌, ◌≤◌, [], None, Some, IfErr, IfOk, IfSome, IsErrOf, MatchResult, OnOk, filter, length, map, not, option_map, true};
 ghost use Rattle.std.specs.Arc.{arc_value};
 ghost use Rattle.layer_model.specs.Coherent.{IsCoherent};
-ghost use Rattle.named_disks.specs.NamedDisks.{IsIn, KeepsOthers, reads_as};
+ghost use Rattle.named_disks.specs.NamedDisks.{IsIn, KeepsAll, reads_as};
 ghost use Rattle.project_machine.specs.History.{after};
 ghost use Rattle.project_machine.specs.Machine.{line_of};
 ghost use Rattle.project_machine.specs.ProjectState.{annotators, is_annotator, is_curator, is_there, row_in};
@@ -17,7 +17,7 @@ use layer_rules::well_formed_layers_cohere;
 use mark_base::{Bytes, Memory, Slug, Steps};
 use match_scores::{Scores, scores_csv};
 use named_disks::Disks;
-use program_inputs::{Trouble, give_project_back, open_project};
+use program_inputs::{Trouble, look_at_project};
 use project_book::{Book, BookRefusal, DocLine, DocList, Reply, Request};
 use project_journal::Keeper;
 use project_machine::states_can_be_restored;
@@ -54,6 +54,7 @@ fn list_documents<K: Keeper, G: Ledger>(
     ensures no_file { IfErr result (λ trouble. trouble ≢ Trouble.FileFailed) }
     ensures no_read { IfErr result (λ trouble. trouble ≢ Trouble.ReadFault) }
     ensures no_write { IfErr result (λ trouble. trouble ≢ Trouble.WriteFault) }
+    ensures no_use { IfErr result (λ trouble. trouble ≢ Trouble.DiskInUse) }
 {
     match ask_granted(project, caller, Request::ListDocs, steps)? {
         Reply::Docs(lines) => Ok(lines),
@@ -81,6 +82,7 @@ fn committed_layer<K: Keeper, G: Ledger>(
     ensures no_file { IfErr result (λ trouble. trouble ≢ Trouble.FileFailed) }
     ensures no_read { IfErr result (λ trouble. trouble ≢ Trouble.ReadFault) }
     ensures no_write { IfErr result (λ trouble. trouble ≢ Trouble.WriteFault) }
+    ensures no_use { IfErr result (λ trouble. trouble ≢ Trouble.DiskInUse) }
 {
     well_formed_layers_cohere();
     match ask(project, caller, Request::ReadLayer { doc, who }, steps) {
@@ -88,9 +90,9 @@ fn committed_layer<K: Keeper, G: Ledger>(
             layer.keeps();
             Ok(Some(layer))
         }
-        Reply::Refused(refusal, _named) => match refusal {
+        Reply::Refused(refusal, named) => match refusal {
             BookRefusal::NoLayer => Ok(None),
-            refusal => Err(trouble_of(refusal)),
+            refusal => Err(trouble_of(refusal, named)),
         },
         _ => unreachable!(),
     }
@@ -120,6 +122,7 @@ fn post_layer<K: Keeper, G: Ledger>(
     ensures no_file { IfErr result (λ trouble. trouble ≢ Trouble.FileFailed) }
     ensures no_read { IfErr result (λ trouble. trouble ≢ Trouble.ReadFault) }
     ensures no_write { IfErr result (λ trouble. trouble ≢ Trouble.WriteFault) }
+    ensures no_use { IfErr result (λ trouble. trouble ≢ Trouble.DiskInUse) }
 {
     let named = name.copy()?;
     let owner = who.copy()?;
@@ -155,6 +158,7 @@ fn post_document<K: Keeper, G: Ledger>(
     ensures no_file { IfErr result (λ trouble. trouble ≢ Trouble.FileFailed) }
     ensures no_read { IfErr result (λ trouble. trouble ≢ Trouble.ReadFault) }
     ensures no_write { IfErr result (λ trouble. trouble ≢ Trouble.WriteFault) }
+    ensures no_use { IfErr result (λ trouble. trouble ≢ Trouble.DiskInUse) }
 {
     let doc = scores.admit()?;
     for rater in 0..scores.raters() {
@@ -186,6 +190,7 @@ fn post_documents<K: Keeper, G: Ledger>(
     ensures no_file { IfErr result (λ trouble. trouble ≢ Trouble.FileFailed) }
     ensures no_read { IfErr result (λ trouble. trouble ≢ Trouble.ReadFault) }
     ensures no_write { IfErr result (λ trouble. trouble ≢ Trouble.WriteFault) }
+    ensures no_use { IfErr result (λ trouble. trouble ≢ Trouble.DiskInUse) }
 {
     let mut scores = Scores::new(alloc, names.len() as u8)?;
     for line in lines {
@@ -212,6 +217,7 @@ fn read_scores<K: Keeper, G: Ledger>(
     ensures no_file { IfErr result (λ trouble. trouble ≢ Trouble.FileFailed) }
     ensures no_read { IfErr result (λ trouble. trouble ≢ Trouble.ReadFault) }
     ensures no_write { IfErr result (λ trouble. trouble ≢ Trouble.WriteFault) }
+    ensures no_use { IfErr result (λ trouble. trouble ≢ Trouble.DiskInUse) }
 {
     states_can_be_restored();
     project.keeps();
@@ -238,6 +244,7 @@ fn scores_here<K: Keeper, G: Ledger>(
     ensures no_file { IfErr result (λ trouble. trouble ≢ Trouble.FileFailed) }
     ensures no_read { IfErr result (λ trouble. trouble ≢ Trouble.ReadFault) }
     ensures no_write { IfErr result (λ trouble. trouble ≢ Trouble.WriteFault) }
+    ensures no_use { IfErr result (λ trouble. trouble ≢ Trouble.DiskInUse) }
 {
     let caller = curator_in(project)?;
     let names = annotator_names(alloc, project.roster().people())?;
@@ -249,8 +256,8 @@ fn scores_here<K: Keeper, G: Ledger>(
     Ok(table)
 }
 
-/// `scores BOOK`: opens the project of a file, and gives the scores of each two annotators over all their committed layers,
-/// ignored or not, as the first curator by name reads them. Cost: opening the project, and posting each committed layer.
+/// `scores BOOK`: reads the project of a file as it stands, and gives the scores of each two annotators over all their committed layers,
+/// ignored or not, as the first curator by name reads them. Cost: reading the project, and posting each committed layer.
 pub fn show_scores<D: Disks, G: Ledger>(
     alloc: Global,
     book: &str,
@@ -258,19 +265,17 @@ pub fn show_scores<D: Disks, G: Ledger>(
     steps: &mut Steps<G>,
 ) -> Result<Bytes, Trouble>
     requires { IsIn (D.out disks.old) book.now }
-    ensures told { MatchResult result (PrintsScores (reads_as (D.stored disks.old) book.now) (reads_as (D.stored disks.new) book.now)) (NotScored (reads_as (D.stored disks.old) book.now)) }
-    ensures taken_back { IsIn (D.out disks.new) book.now }
-    ensures others { KeepsOthers book.now (D.stored disks.old) (D.out disks.old) (D.stored disks.new) (D.out disks.new) }
+    ensures told { MatchResult result (PrintsScores (reads_as (D.stored disks.old) book.now)) (NotScored (reads_as (D.stored disks.old) book.now)) }
+    ensures kept { KeepsAll (D.stored disks.old) (D.out disks.old) (D.stored disks.new) (D.out disks.new) }
     ensures stays { D.faultless disks.old → D.faultless disks.new }
     ensures never { D.faultless disks.old → IsErrOf result Trouble.DiskFailed → ⊥ }
+    ensures free { D.faultless disks.old → IsErrOf result Trouble.DiskInUse → ⊥ }
     ensures no_file { IfErr result (λ trouble. trouble ≢ Trouble.FileFailed) }
     ensures no_read { IfErr result (λ trouble. trouble ≢ Trouble.ReadFault) }
     ensures no_write { IfErr result (λ trouble. trouble ≢ Trouble.WriteFault) }
 {
-    let mut project = open_project(alloc, disks, book)?;
-    let found = scores_here(alloc, &mut project, steps);
-    give_project_back(disks, book, project);
-    match found {
+    let mut project = look_at_project(alloc, disks, book)?;
+    match scores_here(alloc, &mut project, steps) {
         Ok(table) => Ok(table),
         Err(why) => Err(why),
     }

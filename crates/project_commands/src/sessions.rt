@@ -1,7 +1,7 @@
 //! The command `session`: the console is served with the project of a file.
 ghost use Rattle.std.specs.Prelude.{◌≡◌, ◌≢◌, None, IfErr, IsErrOf};
 ghost use Rattle.mark_base.specs.Streams.{TellsFault};
-ghost use Rattle.named_disks.specs.NamedDisks.{IsIn, KeepsOthers, reads_as};
+ghost use Rattle.named_disks.specs.NamedDisks.{IsIn, KeepsOthers, is_there, reads_as};
 ghost use Rattle.project_commands.specs.Sessions.{ServesBook, SessionTold};
 
 use crate::commands::serve;
@@ -31,6 +31,7 @@ fn serve_alone<K: Keeper, C: Link, G: Ledger>(
     ensures served { ServesBook (K.faultless project.keeper) project.log (C.left console.old) (C.left console.new) (C.held console.old) (C.held console.new) result.done result.project.log }
     ensures stays { K.faultless project.keeper → K.faultless result.project.keeper }
     ensures disk { IfErr result.done (λ trouble. trouble ≢ Trouble.DiskFailed) }
+    ensures free { IfErr result.done (λ trouble. trouble ≢ Trouble.DiskInUse) }
     ensures folder { IfErr result.done (λ trouble. trouble ≢ Trouble.FileFailed) }
     ensures read { TellsFault (IsErrOf result.done Trouble.ReadFault) (C.read_faults console.old) (C.read_faults console.new) }
     ensures write { TellsFault (IsErrOf result.done Trouble.WriteFault) (C.write_faults console.old) (C.write_faults console.new) }
@@ -57,8 +58,10 @@ pub fn serve_session<D: Disks, C: Link, G: Ledger>(
     ensures told { SessionTold (D.faultless disks.old) (reads_as (D.stored disks.old) book.now) (reads_as (D.stored disks.new) book.now) (C.left console.old) (C.left console.new) (C.held console.old) (C.held console.new) result }
     ensures taken_back { IsIn (D.out disks.new) book.now }
     ensures others { KeepsOthers book.now (D.stored disks.old) (D.out disks.old) (D.stored disks.new) (D.out disks.new) }
+    ensures none_made { is_there (D.stored disks.new) book.now ≡ is_there (D.stored disks.old) book.now }
     ensures stays { D.faultless disks.old → D.faultless disks.new }
     ensures never { D.faultless disks.old → IsErrOf result Trouble.DiskFailed → ⊥ }
+    ensures free { D.faultless disks.old → IsErrOf result Trouble.DiskInUse → ⊥ }
     ensures folder { IfErr result (λ trouble. trouble ≢ Trouble.FileFailed) }
     ensures read { TellsFault (IsErrOf result Trouble.ReadFault) (C.read_faults console.old) (C.read_faults console.new) }
     ensures write { TellsFault (IsErrOf result Trouble.WriteFault) (C.write_faults console.old) (C.write_faults console.new) }

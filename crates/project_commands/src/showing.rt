@@ -2,7 +2,7 @@
 ghost use Rattle.std.specs.Prelude.{◌≡◌, ◌≢◌, None, IfErr, IfOk, IsErrOf, MatchResult, OnOk, find, length, true};
 ghost use Rattle.std.specs.Option.{option_copied};
 ghost use Rattle.std.specs.Arc.{arc_value};
-ghost use Rattle.named_disks.specs.NamedDisks.{IsIn, KeepsOthers, reads_as};
+ghost use Rattle.named_disks.specs.NamedDisks.{IsIn, KeepsAll, reads_as};
 ghost use Rattle.project_book.specs.Keeping.{TellsKeeper};
 ghost use Rattle.layer_rules.specs.WellFormed.{IsWellFormed};
 ghost use Rattle.ann_reader.specs.AnnFiles.{IsAnn};
@@ -24,7 +24,7 @@ use entry_bytes::Person;
 use layer_model::Layer;
 use mark_base::{Bytes, Memory, Slug, Steps};
 use named_disks::Disks;
-use program_inputs::{Trouble, give_project_back, open_project};
+use program_inputs::{Trouble, look_at_project};
 use project_book::{Book, Reply, Request, Roster, SnapshotView};
 use project_journal::Keeper;
 use project_machine::states_can_be_restored;
@@ -87,6 +87,7 @@ pub(crate) fn read_layer<K: Keeper, G: Ledger>(
     ensures no_file { IfErr result (λ trouble. trouble ≢ Trouble.FileFailed) }
     ensures no_read { IfErr result (λ trouble. trouble ≢ Trouble.ReadFault) }
     ensures no_write { IfErr result (λ trouble. trouble ≢ Trouble.WriteFault) }
+    ensures no_use { IfErr result (λ trouble. trouble ≢ Trouble.DiskInUse) }
 {
     match ask_granted(project, caller, Request::ReadLayer { doc, who }, steps)? {
         Reply::Layer(layer, doc, conf) => Ok(LayerRead { layer, doc, conf }),
@@ -119,6 +120,7 @@ fn layer_here<K: Keeper, G: Ledger>(
     ensures no_file { IfErr result (λ trouble. trouble ≢ Trouble.FileFailed) }
     ensures no_read { IfErr result (λ trouble. trouble ≢ Trouble.ReadFault) }
     ensures no_write { IfErr result (λ trouble. trouble ≢ Trouble.WriteFault) }
+    ensures no_use { IfErr result (λ trouble. trouble ≢ Trouble.DiskInUse) }
 {
     let owner = who.copy()?;
     let read = match read_layer(project, who, name, owner, steps) {
@@ -144,6 +146,7 @@ fn read_snapshot<K: Keeper, G: Ledger>(
     ensures no_file { IfErr result (λ trouble. trouble ≢ Trouble.FileFailed) }
     ensures no_read { IfErr result (λ trouble. trouble ≢ Trouble.ReadFault) }
     ensures no_write { IfErr result (λ trouble. trouble ≢ Trouble.WriteFault) }
+    ensures no_use { IfErr result (λ trouble. trouble ≢ Trouble.DiskInUse) }
 {
     match ask_granted(project, caller, Request::TakeSnapshot { number }, steps)? {
         Reply::Taken(view) => Ok(view),
@@ -177,6 +180,7 @@ fn curated_for<K: Keeper, G: Ledger>(
     ensures no_file { IfErr result (λ trouble. trouble ≢ Trouble.FileFailed) }
     ensures no_read { IfErr result (λ trouble. trouble ≢ Trouble.ReadFault) }
     ensures no_write { IfErr result (λ trouble. trouble ≢ Trouble.WriteFault) }
+    ensures no_use { IfErr result (λ trouble. trouble ≢ Trouble.DiskInUse) }
 {
     let view = match read_snapshot(project, caller, number, steps) {
         Ok(view) => view,
@@ -200,6 +204,7 @@ fn curated_here<K: Keeper, G: Ledger>(
     ensures no_file { IfErr result (λ trouble. trouble ≢ Trouble.FileFailed) }
     ensures no_read { IfErr result (λ trouble. trouble ≢ Trouble.ReadFault) }
     ensures no_write { IfErr result (λ trouble. trouble ≢ Trouble.WriteFault) }
+    ensures no_use { IfErr result (λ trouble. trouble ≢ Trouble.DiskInUse) }
 {
     let caller = curator_in(project)?;
     match curated_for(alloc, project, &caller, number, steps) {
@@ -208,8 +213,8 @@ fn curated_here<K: Keeper, G: Ledger>(
     }
 }
 
-/// `export BOOK WHO NAME`: opens the project of a file, and gives the committed layer of an annotator on a document as
-/// .ann lines, as the annotator reads it. Cost: opening the project, and the lines.
+/// `export BOOK WHO NAME`: reads the project of a file as it stands, and gives the committed layer of an annotator on a document as
+/// .ann lines, as the annotator reads it. Cost: reading the project, and the lines.
 pub fn export_layer<D: Disks, G: Ledger>(
     alloc: Global,
     book: &str,
@@ -219,26 +224,24 @@ pub fn export_layer<D: Disks, G: Ledger>(
     steps: &mut Steps<G>,
 ) -> Result<Bytes, Trouble>
     requires { IsIn (D.out disks.old) book.now }
-    ensures told { MatchResult result (Exports (reads_as (D.stored disks.old) book.now) (reads_as (D.stored disks.new) book.now) who.now name) (NotExported (reads_as (D.stored disks.old) book.now) who.now name) }
-    ensures taken_back { IsIn (D.out disks.new) book.now }
-    ensures others { KeepsOthers book.now (D.stored disks.old) (D.out disks.old) (D.stored disks.new) (D.out disks.new) }
+    ensures told { MatchResult result (Exports (reads_as (D.stored disks.old) book.now) who.now name) (NotExported (reads_as (D.stored disks.old) book.now) who.now name) }
+    ensures kept { KeepsAll (D.stored disks.old) (D.out disks.old) (D.stored disks.new) (D.out disks.new) }
     ensures stays { D.faultless disks.old → D.faultless disks.new }
     ensures never { D.faultless disks.old → IsErrOf result Trouble.DiskFailed → ⊥ }
+    ensures free { D.faultless disks.old → IsErrOf result Trouble.DiskInUse → ⊥ }
     ensures no_file { IfErr result (λ trouble. trouble ≢ Trouble.FileFailed) }
     ensures no_read { IfErr result (λ trouble. trouble ≢ Trouble.ReadFault) }
     ensures no_write { IfErr result (λ trouble. trouble ≢ Trouble.WriteFault) }
 {
-    let mut project = open_project(alloc, disks, book)?;
-    let found = layer_here(alloc, &mut project, who, name, steps);
-    give_project_back(disks, book, project);
-    match found {
+    let mut project = look_at_project(alloc, disks, book)?;
+    match layer_here(alloc, &mut project, who, name, steps) {
         Ok(lines) => Ok(lines),
         Err(why) => Err(why),
     }
 }
 
-/// `curated BOOK NUMBER`: opens the project of a file, and gives the curated layer of the snapshot of a number, from 1, as
-/// .ann lines, as the first curator by name reads it. Cost: opening the project, and the curated layer.
+/// `curated BOOK NUMBER`: reads the project of a file as it stands, and gives the curated layer of the snapshot of a number, from 1, as
+/// .ann lines, as the first curator by name reads it. Cost: reading the project, and the curated layer.
 pub fn show_curated<D: Disks, G: Ledger>(
     alloc: Global,
     book: &str,
@@ -247,19 +250,17 @@ pub fn show_curated<D: Disks, G: Ledger>(
     steps: &mut Steps<G>,
 ) -> Result<Bytes, Trouble>
     requires { IsIn (D.out disks.old) book.now }
-    ensures told { MatchResult result (ShowsSnapshot (reads_as (D.stored disks.old) book.now) (reads_as (D.stored disks.new) book.now) number) (NoSnapshot (reads_as (D.stored disks.old) book.now) number) }
-    ensures taken_back { IsIn (D.out disks.new) book.now }
-    ensures others { KeepsOthers book.now (D.stored disks.old) (D.out disks.old) (D.stored disks.new) (D.out disks.new) }
+    ensures told { MatchResult result (ShowsSnapshot (reads_as (D.stored disks.old) book.now) number) (NoSnapshot (reads_as (D.stored disks.old) book.now) number) }
+    ensures kept { KeepsAll (D.stored disks.old) (D.out disks.old) (D.stored disks.new) (D.out disks.new) }
     ensures stays { D.faultless disks.old → D.faultless disks.new }
     ensures never { D.faultless disks.old → IsErrOf result Trouble.DiskFailed → ⊥ }
+    ensures free { D.faultless disks.old → IsErrOf result Trouble.DiskInUse → ⊥ }
     ensures no_file { IfErr result (λ trouble. trouble ≢ Trouble.FileFailed) }
     ensures no_read { IfErr result (λ trouble. trouble ≢ Trouble.ReadFault) }
     ensures no_write { IfErr result (λ trouble. trouble ≢ Trouble.WriteFault) }
 {
-    let mut project = open_project(alloc, disks, book)?;
-    let found = curated_here(alloc, &mut project, number, steps);
-    give_project_back(disks, book, project);
-    match found {
+    let mut project = look_at_project(alloc, disks, book)?;
+    match curated_here(alloc, &mut project, number, steps) {
         Ok(lines) => Ok(lines),
         Err(why) => Err(why),
     }

@@ -1,7 +1,9 @@
 //! The agreement of each two annotators.
-ghost use Rattle.std.specs.Prelude.{◌≡◌};
+ghost use Rattle.std.specs.Prelude.{◌≡◌, IfOk};
 
 use kappa_alpha::PairLine;
+use mark_base::Memory;
+use std::alloc::Global;
 use std::marker::Model;
 
 /// The lines of each two annotators, in the order of their names.
@@ -20,6 +22,14 @@ impl Model for PairList {
 }
 
 impl PairList {
+    /// A copy of these lines. Cost: their number.
+    pub fn of(alloc: Global, items: &[PairLine]) -> Result<Self, Memory>
+        ensures { IfOk result (λ list. list ≡ items.now) }
+    {
+        let items = Vec::from_slice(alloc, items)?;
+        Ok(PairList { items })
+    }
+
     /// The lines of a vector, which is not copied.
     pub fn from_vec(items: Vec<PairLine>) -> Self
         ensures { result ≡ items.items }
@@ -32,5 +42,13 @@ impl PairList {
         ensures { result.now ≡ self.now }
     {
         self.items.as_slice()
+    }
+
+    /// A second list of the same lines. Cost: their number.
+    pub fn copy(&self) -> Result<Self, Memory>
+        ensures { IfOk result (λ list. list ≡ self.now) }
+    {
+        let alloc = *self.items.allocator();
+        PairList::of(alloc, self.items.as_slice())
     }
 }

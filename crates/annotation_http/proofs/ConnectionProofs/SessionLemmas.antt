@@ -11,14 +11,14 @@ use Rattle.http_wire.specs.declared.answer.Answer.{Answer}
 use Rattle.http_wire.specs.declared.message.Message.{Message}
 use Rattle.http_wire.specs.declared.stop.Stop.{Stop}
 use Rattle.http_wire.specs.declared.stop.Stop.TheVariants as stop
-use Rattle.http_wire.specs.Answers.{answer_bytes_of, stop_answer, unable}
+use Rattle.http_wire.specs.Answers.{answer_bytes_of, answer_bytes_to, stop_answer, unable}
 use Rattle.http_wire.specs.Inbox.{TakesMessage, StopsAsDefined}
 use Rattle.http_wire.specs.Messages.{ReadsMessage, StopsWith}
 use Rattle.annotation_http.specs.Exchanges.Exchanges.{IsExchange}
 use Rattle.project_machine.specs.Asking.{Visiting}
 use Rattle.annotation_http.specs.Exchanges.Connections.{Connection, Bare, Holds}
 use Rattle.annotation_http.specs.Connection.Steps.{Given, IsLastPark, Serving, Step, place_of, serving}
-use Rattle.annotation_http.specs.Connection.Session.{AnswerEnds, ConnectionTold, IfTold, Lacks, Refused, RefusalEnds, Run, SendEnds, Served, SessionEnds, SessionTold, Stepped, StopAnswered, StopEnds, Stopped, Takes, TakesKnown, UnableEnds, bytes_from, bytes_of, is_last_answer, owed}
+use Rattle.annotation_http.specs.Connection.Session.{AnswerEnds, ConnectionTold, IfTold, Lacks, Refused, RefusalEnds, Run, SendEnds, Served, SessionEnds, SessionTold, Stepped, StopAnswered, StopEnds, Stopped, Takes, TakesKnown, UnableEnds, bytes_from, bytes_of, is_bodiless, is_last_answer, owed}
 use Rattle.annotation_http.specs.declared.connection.ending.Ending.{Ending}
 use Rattle.annotation_http.specs.declared.connection.ending.Ending.TheVariants as ending
 
@@ -323,16 +323,17 @@ session_stops faultless old new count left between now before sent written held 
 -- ---- one answer, at the place of the visitor
 
 -- an answer that was sent
-pub answered_ends : (faultless : Type 0) (old new : Serving) (message : Message) (answer : Answer) (sent written : Option (List ℕ)) (n place : ℕ) (last : Bool) (result : Result (Unit {0}) Ending)
-    → IsExchange old.connection old.visiting faultless message new.connection new.visiting answer → place ≡ place_of new → last ≡ is_last_answer n message
-    → SendEnds place (answer_bytes_of answer place last) sent written result → AnswerEnds faultless old message new sent written n result
-answered_ends faultless old new message answer sent written n place last result done at is told = record {
+pub answered_ends : (faultless : Type 0) (old new : Serving) (message : Message) (answer : Answer) (sent written : Option (List ℕ)) (n place : ℕ) (last bodiless : Bool) (result : Result (Unit {0}) Ending)
+    → IsExchange old.connection old.visiting faultless message new.connection new.visiting answer → place ≡ place_of new → last ≡ is_last_answer n message → bodiless ≡ is_bodiless message
+    → SendEnds place (answer_bytes_to bodiless answer place last) sent written result → AnswerEnds faultless old message new sent written n result
+answered_ends faultless old new message answer sent written n place last bodiless result done at is lacks told = record {
   given = record { answer = answer; place = place_of new; failed = done.failed };
   step = record { carried = done.carried; place = refl; cause = done.cause };
   kept = done.quiet;
   sends =
-      subst (λ (b : Bool). SendEnds (place_of new) (answer_bytes_of answer (place_of new) b) sent written result) is
-      (subst (λ (k : ℕ). SendEnds k (answer_bytes_of answer k last) sent written result) at told);
+      subst (λ (b : Bool). SendEnds (place_of new) (answer_bytes_to b answer (place_of new) (is_last_answer n message)) sent written result) lacks
+      (subst (λ (b : Bool). SendEnds (place_of new) (answer_bytes_to bodiless answer (place_of new) b) sent written result) is
+      (subst (λ (k : ℕ). SendEnds k (answer_bytes_to bodiless answer k last) sent written result) at told));
 }
 
 -- an answer that found no memory

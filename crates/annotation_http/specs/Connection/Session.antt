@@ -1,5 +1,5 @@
 -- A whole connection: the messages taken, their answers at places of one history, and how it ended.
-use Rattle.std.specs.Prelude.{◌≡◌, ℕ, ◌+◌, ◌<◌, ◌⊎◌, ◌==◌, ◌||◌, Bool, true, false, Result, Ok, Err, List, [], ◌∷◌, ◌++◌, length, Option, Some, None, IfSome, codes, if◌then◌else◌, ⊤}
+use Rattle.std.specs.Prelude.{◌≡◌, ℕ, ◌+◌, ◌<◌, ◌⊎◌, ◌==◌, ◌||◌, Bool, true, false, Result, Ok, Err, List, [], ◌∷◌, ◌++◌, length, Option, Some, None, IfSome, bytes_eq, codes, if◌then◌else◌, ⊤}
 use Rattle.std.specs.List.{list_any}
 use Rattle.std.specs.Io.KnownBytes.{Appends, IsAtEnd, prepend_known}
 use Rattle.mark_base.specs.Streams.{AppendsFront}
@@ -7,7 +7,7 @@ use Rattle.http_wire.specs.declared.answer.Answer.{Answer}
 use Rattle.http_wire.specs.declared.message.Message.{Message}
 use Rattle.http_wire.specs.declared.stop.Stop.{Stop}
 use Rattle.http_wire.specs.declared.stop.Stop.TheVariants as stop
-use Rattle.http_wire.specs.Answers.{answer_bytes_of, refusal, stop_answer, unable}
+use Rattle.http_wire.specs.Answers.{answer_bytes_of, answer_bytes_to, refusal, stop_answer, unable}
 use Rattle.http_wire.specs.Inbox.{TakesMessage}
 use Rattle.http_wire.specs.Messages.{ReadsMessage, IsUnfinished, StopsWith}
 use Rattle.annotation_http.specs.declared.connection.ending.Ending.{Ending}
@@ -42,9 +42,13 @@ Run old (message ∷ messages) [] new = ⊥
 abbrev pub is_last_answer : ℕ → Message → Bool
 is_last_answer n message = message.last || n + 1 == 1000000
 
+-- the answer to a message has no body: its method is HEAD
+abbrev pub is_bodiless : Message → Bool
+is_bodiless message = bytes_eq message.method (codes "HEAD")
+
 -- the bytes of an answer, with its place
 abbrev pub bytes_of : ℕ → Message → Given → List ℕ
-bytes_of n message given = answer_bytes_of given.answer given.place (is_last_answer n message)
+bytes_of n message given = answer_bytes_to (is_bodiless message) given.answer given.place (is_last_answer n message)
 
 -- the bytes of answers, the first of which is the answer number n
 abbrev pub bytes_from : ℕ → List Message → List Given → List ℕ

@@ -1,13 +1,13 @@
 //! Answers, as they are written to the link.
 ghost use Rattle.std.specs.Prelude.{◌≡◌, ◌<◌, ◌≤◌, ◌+◌, Err, true};
 ghost use Rattle.http.specs.StatusCode.{IsStatusCode};
-ghost use Rattle.http_wire.specs.Answers.{answer_bytes_of, refusal};
+ghost use Rattle.http_wire.specs.Answers.{answer_bytes_of, answer_bytes_to, refusal};
 ghost use Rattle.mark_base.specs.Streams.{OnlyWrites, TellsFault};
 ghost use Rattle.project_machine.specs.History.{last};
 ghost use Rattle.project_machine.specs.Legal.{IsLegal};
 ghost use Rattle.annotation_http.specs.Exchanges.Connections.{connection_of};
 ghost use Rattle.annotation_http.specs.Connection.Steps.{serving};
-ghost use Rattle.annotation_http.specs.Connection.Session.{AnswerEnds, SendEnds, StopEnds, UnableEnds, ended, is_last_answer};
+ghost use Rattle.annotation_http.specs.Connection.Session.{AnswerEnds, SendEnds, StopEnds, UnableEnds, ended, is_bodiless, is_last_answer};
 
 use crate::connection::ending::Ending;
 use crate::exchanges::{Start, exchange};
@@ -33,20 +33,21 @@ pub(crate) fn end_unable<L: Link>(link: &mut L, place: u64) -> Ending
     }
 }
 
-/// Writes an answer. Where its bytes find no memory, that is written in their place.
+/// Writes an answer, with its body or without it. Where its bytes find no memory, that is written in their place.
 fn send_answer<L: Link>(
     alloc: Global,
     link: &mut L,
     answer: &Answer,
     place: u64,
     last: bool,
+    bodiless: bool,
 ) -> Result<(), Ending>
     requires { IsStatusCode answer.now.status }
-    ensures told { SendEnds place (answer_bytes_of answer.now place last) (L.held link.old) (L.held link.new) result }
+    ensures told { SendEnds place (answer_bytes_to bodiless answer.now place last) (L.held link.old) (L.held link.new) result }
     ensures cause { TellsFault (result ≡ Err Ending.WriteFault) (L.write_faults link.old) (L.write_faults link.new) }
     ensures apart { OnlyWrites L.left L.read_faults L.write_faults link.old link.new }
 {
-    let bytes = match answer_bytes(alloc, answer, place, last) {
+    let bytes = match answer_bytes(alloc, answer, place, last, bodiless) {
         Ok(bytes) => bytes,
         Err(Memory) => return Err(end_unable(link, place)),
     };
@@ -62,6 +63,13 @@ fn is_last(message: &Message, count: u32) -> bool
     ensures { result ≡ is_last_answer count message.now }
 {
     message.last || count + 1 == MOST_ANSWERS
+}
+
+/// Whether the answer to a message has no body.
+fn is_bodiless(message: &Message) -> bool
+    ensures { result ≡ is_bodiless message.now }
+{
+    message.method.text() == "HEAD"
 }
 
 /// Answers one message, with the answer number `count`, from 0.
@@ -89,7 +97,14 @@ pub(crate) fn answer_message<V: Visitor, L: Link, G: Ledger>(
     let answered = exchange(alloc, routes, visitor, connection, message, steps);
     let place = visitor.place();
     match answered {
-        Ok(answer) => send_answer(alloc, link, &answer, place, is_last(message, count)),
+        Ok(answer) => send_answer(
+            alloc,
+            link,
+            &answer,
+            place,
+            is_last(message, count),
+            is_bodiless(message),
+        ),
         Err(Memory) => Err(end_unable(link, place)),
     }
 }
@@ -108,7 +123,7 @@ fn refuse_last<L: Link>(
     ensures apart { OnlyWrites L.left L.read_faults L.write_faults link.old link.new }
 {
     match Answer::refusal(alloc, status, name) {
-        Ok(answer) => send_answer(alloc, link, &answer, place, true),
+        Ok(answer) => send_answer(alloc, link, &answer, place, true, false),
         Err(Memory) => Err(end_unable(link, place)),
     }
 }

@@ -29,12 +29,13 @@ posts route = record { get = None; put = None; post = Some route }
 abbrev pub gets_and_puts : {R : Type 0} → R → R → Methods R
 gets_and_puts get put = record { get = Some get; put = Some put; post = None }
 
--- what a method asks at a path
+-- what a method asks at a path: HEAD asks what GET does, and its answer goes without a body
 abbrev pub asked_by : {R : Type 0} → Methods R → List ℕ → Option R
 asked_by methods method =
     if bytes_eq method (codes "GET") then methods.get
+    else (if bytes_eq method (codes "HEAD") then methods.get
     else (if bytes_eq method (codes "PUT") then methods.put
-    else (if bytes_eq method (codes "POST") then methods.post else None))
+    else (if bytes_eq method (codes "POST") then methods.post else None)))
 
 -- ---- the table
 

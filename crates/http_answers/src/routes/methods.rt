@@ -44,12 +44,13 @@ impl<R: Copy> Methods<R> {
         }
     }
 
-    /// What a method asks. Methods differ by case.
+    /// What a method asks; HEAD asks what GET does (RFC 9110, section 9.3.2). Methods differ by case.
     pub fn asked_by(&self, method: &str) -> Option<R>
         ensures { result ≡ asked_by self.now method.now }
     {
         match method {
             "GET" => self.get,
+            "HEAD" => self.get,
             "PUT" => self.put,
             "POST" => self.post,
             _ => None,

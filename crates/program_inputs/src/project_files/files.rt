@@ -36,7 +36,7 @@ pub(crate) fn found_in<E: Disk + Drop>(
     ensures founded { IfOk result (λ book. book.log ≡ founded conf level roster) }
     ensures certain { IfOk result (λ book. ⟦<Journal<E> as Keeper>⟧.doubt book.keeper ≡ None) }
     ensures refused { IfErr result (λ back. NotMade (E.holds disk) conf level roster back.1) }
-    ensures sure { E.faultless disk → MatchResult result (λ book. ⟦<Journal<E> as Keeper>⟧.faultless book.keeper) (λ back. E.faultless back.0 × (back.1 ≢ Trouble.DiskFailed)) }
+    ensures sure { E.faultless disk → MatchResult result (λ book. ⟦<Journal<E> as Keeper>⟧.faultless book.keeper) (λ back. E.faultless back.0 × (back.1 ≢ Trouble.DiskFailed) × (back.1 ≢ Trouble.DiskInUse)) }
 {
     let journal = match Journal::create(alloc, disk) {
         Ok(journal) => journal,
@@ -64,7 +64,7 @@ pub(crate) fn open_in<E: Disk + Drop>(
     ensures opened { IfOk result (λ book. OpensAs (E.holds disk) book.log) }
     ensures certain { IfOk result (λ book. ⟦<Journal<E> as Keeper>⟧.doubt book.keeper ≡ None) }
     ensures refused { IfErr result (λ back. NotOpened (E.holds disk) back.1) }
-    ensures sure { E.faultless disk → MatchResult result (λ book. ⟦<Journal<E> as Keeper>⟧.faultless book.keeper) (λ back. E.faultless back.0 × (back.1 ≢ Trouble.DiskFailed)) }
+    ensures sure { E.faultless disk → MatchResult result (λ book. ⟦<Journal<E> as Keeper>⟧.faultless book.keeper) (λ back. E.faultless back.0 × (back.1 ≢ Trouble.DiskFailed) × (back.1 ≢ Trouble.DiskInUse)) }
 {
     let (journal, entries) = match Journal::open(alloc, disk) {
         Ok(opened) => opened,
@@ -93,7 +93,7 @@ pub(crate) fn make_in<E: Disk + Drop>(
     requires { All IsEntry entries.now }
     ensures made { IfOk result (λ it. HasEntries (E.holds it) entries.now) }
     ensures refused { IfErr result (λ back. NotBegun (E.holds disk) back.1) }
-    ensures sure { E.faultless disk → MatchResult result (λ it. E.faultless it) (λ back. E.faultless back.0 × (back.1 ≢ Trouble.DiskFailed)) }
+    ensures sure { E.faultless disk → MatchResult result (λ it. E.faultless it) (λ back. E.faultless back.0 × (back.1 ≢ Trouble.DiskFailed) × (back.1 ≢ Trouble.DiskInUse)) }
 {
     match Journal::create_with(alloc, disk, entries) {
         Ok(journal) => Ok(journal.into_disk()),

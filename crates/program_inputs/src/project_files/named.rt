@@ -1,7 +1,7 @@
 //! The project in the disk of a name.
-ghost use Rattle.std.specs.Prelude.{◌≡◌, ◌≢◌, All, None, IfErr, IfOk, IfSome, IsErrOf, OnErr, OnOk};
+ghost use Rattle.std.specs.Prelude.{◌≡◌, ◌≢◌, All, None, Some, IfErr, IfOk, IfSome, IsErrOf, OnErr, OnOk};
 ghost use Rattle.project_book.specs.Founding.{founded};
-ghost use Rattle.named_disks.specs.NamedDisks.{IsIn, IsOut, KeepsOthers, reads_as};
+ghost use Rattle.named_disks.specs.NamedDisks.{IsIn, IsOut, KeepsAll, KeepsOthers, is_there, reads_as};
 ghost use Rattle.project_journal.specs.Keeper.{IsEntry};
 ghost use Rattle.program_inputs.specs.ProjectFiles.ProjectFiles.{HasEntries, IsFileOf, NotBegun, NotMade, NotOpened, NotTaken, OpensAs};
 
@@ -11,11 +11,34 @@ use conf_model::Conf;
 use mark_base::Bytes;
 use named_disks::{Disks, DisksFault};
 use project_book::{Book, Roster};
-use project_journal::{Disk, Journal, Keeper};
+use project_journal::{Disk, Journal, Keeper, MemoryDisk};
 use std::alloc::Global;
 
-/// The disk of a name.
+/// The disk of a name that is there; where nothing is, that is told as no journal.
 fn take_disk<D: Disks>(alloc: Global, disks: &mut D, name: &str) -> Result<D::Disk, Trouble>
+    requires { IsIn (D.out disks.old) name.now }
+    ensures reads { IfOk result (λ disk. IfSome (reads_as (D.stored disks.old) name.now) (λ file. D.Disk.holds disk ≡ Some file)) }
+    ensures handed_out { OnOk result (IsOut (D.out disks.new) name.now) }
+    ensures stays_in { OnErr result (IsIn (D.out disks.new) name.now) }
+    ensures others { KeepsOthers name.now (D.stored disks.old) (D.out disks.old) (D.stored disks.new) (D.out disks.new) }
+    ensures none_made { is_there (D.stored disks.new) name.now ≡ is_there (D.stored disks.old) name.now }
+    ensures told { IfErr result (NotOpened (reads_as (D.stored disks.old) name.now)) }
+    ensures sure { D.faultless disks.old → IfOk result (λ disk. D.Disk.faultless disk) }
+    ensures stays { D.faultless disks.old → D.faultless disks.new }
+    ensures never { D.faultless disks.old → IsErrOf result Trouble.DiskFailed → ⊥ }
+    ensures free { D.faultless disks.old → IsErrOf result Trouble.DiskInUse → ⊥ }
+{
+    match disks.disk(alloc, name) {
+        Ok(disk) => Ok(disk),
+        Err(DisksFault::Absent) => Err(Trouble::NotAJournal),
+        Err(DisksFault::InUse) => Err(Trouble::DiskInUse),
+        Err(DisksFault::Failed) => Err(Trouble::DiskFailed),
+        Err(DisksFault::Memory) => Err(Trouble::Memory),
+    }
+}
+
+/// The disk of a name, of which one is made where nothing is there.
+fn make_disk<D: Disks>(alloc: Global, disks: &mut D, name: &str) -> Result<D::Disk, Trouble>
     requires { IsIn (D.out disks.old) name.now }
     ensures reads { IfOk result (λ disk. IfSome (reads_as (D.stored disks.old) name.now) (λ file. D.Disk.holds disk ≡ Some file)) }
     ensures handed_out { OnOk result (IsOut (D.out disks.new) name.now) }
@@ -25,9 +48,32 @@ fn take_disk<D: Disks>(alloc: Global, disks: &mut D, name: &str) -> Result<D::Di
     ensures sure { D.faultless disks.old → IfOk result (λ disk. D.Disk.faultless disk) }
     ensures stays { D.faultless disks.old → D.faultless disks.new }
     ensures never { D.faultless disks.old → IsErrOf result Trouble.DiskFailed → ⊥ }
+    ensures free { D.faultless disks.old → IsErrOf result Trouble.DiskInUse → ⊥ }
 {
-    match disks.disk(alloc, name) {
+    match disks.make(alloc, name) {
         Ok(disk) => Ok(disk),
+        Err(DisksFault::Absent) => unreachable!(),
+        Err(DisksFault::InUse) => Err(Trouble::DiskInUse),
+        Err(DisksFault::Failed) => Err(Trouble::DiskFailed),
+        Err(DisksFault::Memory) => Err(Trouble::Memory),
+    }
+}
+
+/// A disk in memory that reads as the disk of a name does; where nothing is there, that is told as no journal.
+fn look_at_disk<D: Disks>(alloc: Global, disks: &mut D, name: &str) -> Result<MemoryDisk, Trouble>
+    requires { IsIn (D.out disks.old) name.now }
+    ensures reads { IfOk result (λ disk. IfSome (reads_as (D.stored disks.old) name.now) (λ file. ⟦<MemoryDisk as Disk>⟧.holds disk ≡ Some file)) }
+    ensures kept { KeepsAll (D.stored disks.old) (D.out disks.old) (D.stored disks.new) (D.out disks.new) }
+    ensures told { IfErr result (NotOpened (reads_as (D.stored disks.old) name.now)) }
+    ensures sure { IfOk result (λ disk. ⟦<MemoryDisk as Disk>⟧.faultless disk) }
+    ensures stays { D.faultless disks.old → D.faultless disks.new }
+    ensures never { D.faultless disks.old → IsErrOf result Trouble.DiskFailed → ⊥ }
+    ensures free { D.faultless disks.old → IsErrOf result Trouble.DiskInUse → ⊥ }
+{
+    match disks.look(alloc, name) {
+        Ok(bytes) => Ok(MemoryDisk::new(alloc, bytes, Vec::new(alloc))),
+        Err(DisksFault::Absent) => Err(Trouble::NotAJournal),
+        Err(DisksFault::InUse) => Err(Trouble::DiskInUse),
         Err(DisksFault::Failed) => Err(Trouble::DiskFailed),
         Err(DisksFault::Memory) => Err(Trouble::Memory),
     }
@@ -54,8 +100,9 @@ pub fn found_project<D: Disks>(
     ensures sure { D.faultless disks.old → IfOk result (λ book. ⟦<Journal<D::Disk> as Keeper>⟧.faultless book.keeper) }
     ensures stays { D.faultless disks.old → D.faultless disks.new }
     ensures never { D.faultless disks.old → IsErrOf result Trouble.DiskFailed → ⊥ }
+    ensures free { D.faultless disks.old → IsErrOf result Trouble.DiskInUse → ⊥ }
 {
-    let disk = take_disk(alloc, disks, name)?;
+    let disk = make_disk(alloc, disks, name)?;
     match found_in(alloc, disk, conf, roster, level) {
         Ok(book) => Ok(book),
         Err((disk, trouble)) => {
@@ -65,7 +112,7 @@ pub fn found_project<D: Disks>(
     }
 }
 
-/// Opens the project in the file of a name. Where some layer was out, all are freed, by one change more. The project has
+/// Opens the project in the file of a name, which has to be there. Where some layer was out, all are freed, by one change more. The project has
 /// the disk of the name until [`give_project_back`]; a refusal gives it back. Cost: see `Journal::open` and `Book::open`.
 pub fn open_project<D: Disks>(
     alloc: Global,
@@ -79,9 +126,11 @@ pub fn open_project<D: Disks>(
     ensures stays_in { OnErr result (IsIn (D.out disks.new) name.now) }
     ensures refused { IfErr result (NotOpened (reads_as (D.stored disks.old) name.now)) }
     ensures others { KeepsOthers name.now (D.stored disks.old) (D.out disks.old) (D.stored disks.new) (D.out disks.new) }
+    ensures none_made { is_there (D.stored disks.new) name.now ≡ is_there (D.stored disks.old) name.now }
     ensures sure { D.faultless disks.old → IfOk result (λ book. ⟦<Journal<D::Disk> as Keeper>⟧.faultless book.keeper) }
     ensures stays { D.faultless disks.old → D.faultless disks.new }
     ensures never { D.faultless disks.old → IsErrOf result Trouble.DiskFailed → ⊥ }
+    ensures free { D.faultless disks.old → IsErrOf result Trouble.DiskInUse → ⊥ }
 {
     let disk = take_disk(alloc, disks, name)?;
     match open_in(alloc, disk) {
@@ -90,6 +139,31 @@ pub fn open_project<D: Disks>(
             disks.give_back(name, disk);
             Err(trouble)
         }
+    }
+}
+
+/// Reads the project in the file of a name as the file stands, also where another process has it and goes on with it: what was
+/// kept before the call is there, and perhaps more. Nothing of the file changes, and nothing is to be given back: where some
+/// layer was out, all are freed in the project that is read, and not in the file. Cost: the file, `Journal::open` and
+/// `Book::open`; its bytes are held once more while the project is.
+pub fn look_at_project<D: Disks>(
+    alloc: Global,
+    disks: &mut D,
+    name: &str,
+) -> Result<Book<Journal<MemoryDisk>>, Trouble>
+    requires { IsIn (D.out disks.old) name.now }
+    ensures opened { IfOk result (λ book. OpensAs (reads_as (D.stored disks.old) name.now) book.log) }
+    ensures sure { IfOk result (λ book. ⟦<Journal<MemoryDisk> as Keeper>⟧.faultless book.keeper) }
+    ensures refused { IfErr result (NotOpened (reads_as (D.stored disks.old) name.now)) }
+    ensures kept { KeepsAll (D.stored disks.old) (D.out disks.old) (D.stored disks.new) (D.out disks.new) }
+    ensures stays { D.faultless disks.old → D.faultless disks.new }
+    ensures never { D.faultless disks.old → IsErrOf result Trouble.DiskFailed → ⊥ }
+    ensures free { D.faultless disks.old → IsErrOf result Trouble.DiskInUse → ⊥ }
+{
+    let disk = look_at_disk(alloc, disks, name)?;
+    match open_in(alloc, disk) {
+        Ok(book) => Ok(book),
+        Err((_disk, trouble)) => Err(trouble),
     }
 }
 
@@ -109,8 +183,9 @@ pub fn make_file<D: Disks>(
     ensures others { KeepsOthers name.now (D.stored disks.old) (D.out disks.old) (D.stored disks.new) (D.out disks.new) }
     ensures stays { D.faultless disks.old → D.faultless disks.new }
     ensures never { D.faultless disks.old → IsErrOf result Trouble.DiskFailed → ⊥ }
+    ensures free { D.faultless disks.old → IsErrOf result Trouble.DiskInUse → ⊥ }
 {
-    let disk = take_disk(alloc, disks, name)?;
+    let disk = make_disk(alloc, disks, name)?;
     match make_in(alloc, disk, entries) {
         Ok(disk) => {
             disks.give_back(name, disk);
@@ -131,6 +206,7 @@ pub fn give_project_back<D: Disks>(disks: &mut D, name: &str, book: Book<Journal
     ensures certain { ⟦<Journal<D::Disk> as Keeper>⟧.faultless book.keeper → IsFileOf (reads_as (D.stored disks.new) name.now) book.log }
     ensures taken_back { IsIn (D.out disks.new) name.now }
     ensures others { KeepsOthers name.now (D.stored disks.old) (D.out disks.old) (D.stored disks.new) (D.out disks.new) }
+    ensures none_made { is_there (D.stored disks.new) name.now ≡ is_there (D.stored disks.old) name.now }
     ensures stays { D.faultless disks.old → ⟦<Journal<D::Disk> as Keeper>⟧.faultless book.keeper → D.faultless disks.new }
 {
     let disk = close(book);

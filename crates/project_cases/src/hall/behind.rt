@@ -3,10 +3,9 @@ ghost use Rattle.std.specs.Prelude.{◌≡◌};
 
 use crate::hall::answers::answers_to;
 use crate::hall::guests::found;
-use crate::hall::projects::{conf, list_messages};
+use crate::hall::projects::list_messages;
 use anyhow::{Error, Result};
-use case_books::request_of;
-use case_words::Asked;
+use char_documents::Doc;
 use mark_base::{Slug, Steps};
 use project_book::{Reply, Request, Visitor};
 use std::alloc::Global;
@@ -63,16 +62,12 @@ fn slug(alloc: Global, name: &str) -> Result<Slug> {
 
 /// Requests that add the documents a, b and c, the first one last.
 fn additions(alloc: Global) -> Result<Vec<Request>> {
-    let conf = conf(alloc)?;
     let mut requests = Vec::new(alloc);
     for name in ["c", "b", "a"] {
-        let asked = Asked::Add {
-            doc: slug(alloc, name)?,
-            text: String::from_str(alloc, "a b c")?,
-        };
-        match request_of(alloc, 0, &conf, asked) {
-            Ok(request) => requests.push(request)?,
-            Err(_) => return Err(Error::msg("a request is not read")),
+        let doc = slug(alloc, name)?;
+        match Doc::new(alloc, "a b c") {
+            Ok(text) => requests.push(Request::AddText { doc, text })?,
+            Err(_) => return Err(Error::msg("a text is not read")),
         }
     }
     Ok(requests)

@@ -111,4 +111,8 @@ impl Door for CaseDoor {
     fn next(&mut self) -> Result<Option<CaseLink>, Failed> {
         Ok(self.links.next())
     }
+
+    fn faults(&self) -> u64 {
+        0
+    }
 }

@@ -1,19 +1,11 @@
 //! The project of the cases: one type, an annotator and a curator.
-ghost use Rattle.std.specs.Prelude.{◌≡◌, IfOk};
-ghost use Rattle.named_disks.specs.NamedDisks.{IsIn};
-
 use annotation_conf::read_conf;
 use anyhow::{Error, Result};
 use conf_model::Conf;
 use entry_bytes::Person;
 use mark_base::{Bytes, Slug};
-use named_disks::{Disks, MemoryDisks};
-use program_inputs::{found_project, give_project_back, open_project};
 use project_book::Roster;
 use std::alloc::Global;
-
-/// The name of the project's file.
-pub(crate) const FILE: &str = "cases.book";
 
 /// A configuration of one type.
 pub(crate) fn conf(alloc: Global) -> Result<Conf> {
@@ -38,34 +30,6 @@ pub(crate) fn roster(alloc: Global) -> Result<Roster> {
     match Roster::of(alloc, people) {
         Ok(roster) => Ok(roster),
         Err(_) => Err(Error::msg("the people are no roster")),
-    }
-}
-
-/// Disks in memory, in which the project was founded by the first call; those of these numbers fail.
-pub(crate) fn founded(alloc: Global, fails: Vec<u64>) -> Result<MemoryDisks>
-    ensures { IfOk result (λ disks. IsIn (⟦<MemoryDisks as Disks>⟧.out disks) FILE.now) }
-{
-    let mut disks = MemoryDisks::new(alloc, Vec::new(alloc), fails);
-    match found_project(alloc, &mut disks, FILE, conf(alloc)?, roster(alloc)?, 255) {
-        Ok(book) => {
-            give_project_back(&mut disks, FILE, book);
-            Ok(disks)
-        }
-        Err(_) => Err(Error::msg("the project is not founded")),
-    }
-}
-
-/// The place of the last change of the project.
-pub(crate) fn place_in(alloc: Global, disks: &mut MemoryDisks) -> Result<u64>
-    requires { IsIn (⟦<MemoryDisks as Disks>⟧.out disks.old) FILE.now }
-{
-    match open_project(alloc, disks, FILE) {
-        Ok(book) => {
-            let place = book.place();
-            give_project_back(disks, FILE, book);
-            Ok(place)
-        }
-        Err(_) => Err(Error::msg("the project is not opened again")),
     }
 }
 

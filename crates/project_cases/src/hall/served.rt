@@ -1,10 +1,10 @@
 //! A project in memory that is served by the command `serve`.
 use crate::hall::case_door::{CaseDoor, CaseLink};
-use crate::hall::projects::{FILE, founded, place_in, put_message};
+use crate::hall::projects::put_message;
+use crate::hall::sites::{FILE, Site};
 use crate::hall::watch::Watch;
 use anyhow::{Error, Result};
-use mark_base::MemoryLink;
-use serve_command::{MemoryDoors, serve_project};
+use mark_base::{Bytes, MemoryLink};
 use std::alloc::Global;
 use std::sync::{Arc, Wait};
 use std::thread::Threads;
@@ -28,25 +28,26 @@ fn link_of(
     })
 }
 
-/// Serves links of a project, and says what they noted, and where the project stands when it is opened again.
+/// Serves links of a project, and says what they noted, and where the project stands when it is opened again, which the
+/// command `compact` prints.
 fn serve_links<R: Threads + Wait + Sync>(
     rt: &R,
     alloc: Global,
     watch: &Watch,
     links: Vec<CaseLink>,
 ) -> Result<String> {
-    let mut disks = founded(alloc, Vec::new(alloc))?;
-    let mut rows = Vec::new(alloc);
-    rows.push(CaseDoor::new(links))?;
-    let mut doors = MemoryDoors::new(rows, Vec::new(alloc));
-    if serve_project(rt, alloc, &mut disks, &mut doors, FILE, 8080).is_err() {
+    let door = CaseDoor::new(links);
+    let mut site = Site::founded(rt, alloc, door, Vec::new(alloc), Vec::new(alloc))?;
+    if site.serve(rt, alloc)?.status != 0 {
         return Err(Error::msg("the run ends with a fault"));
     }
     let Ok(noted) = watch.text(alloc) else {
         return Err(Error::msg("memory"));
     };
-    let place = place_in(alloc, &mut disks)?;
-    Ok(format!(in alloc; "{noted}; the project is at place {place}")?)
+    let words = ["compact", FILE, "compacted.book"];
+    let left = site.run(rt, alloc, &words, Bytes::from_vec(Vec::new(alloc)))?;
+    let place = left.printed.trim_end();
+    Ok(format!(in alloc; "{noted}; the project is at {place}")?)
 }
 
 /// Two links, of which the first waits for the answer of the second.

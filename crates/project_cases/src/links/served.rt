@@ -2,12 +2,12 @@
 ghost use Rattle.std.specs.Prelude.{◌≡◌, ◌≤◌, [], None, IfSome};
 ghost use Rattle.project_machine.specs.Legal.{IsLegal};
 
+use crate::case_fault::{CaseFault, CaseWhat};
+use crate::cases::Case;
 use crate::links::talk::{Talk, talk_of};
 use crate::links::turns::serve_turns;
+use crate::people::{conf_of, roster_of};
 use annotation_http::{Start, serve_link};
-use case_books::roster_of;
-use case_desks::conf_of;
-use case_words::{Case, CaseFault, CaseWhat};
 use mark_base::{Bytes, MemoryLink, Steps};
 use project_book::{Alone, Book, Visitor};
 use project_journal::{Keeper, MemoryKeeper};
@@ -26,8 +26,7 @@ fn found<K: Keeper>(alloc: Global, case: &Case<'_>, keeper: K) -> Result<Option<
     requires empty { IfSome (K.kept keeper) (λ told. told ≡ []) }
     requires certain { K.doubt keeper ≡ None }
 {
-    let section = case.section("conf");
-    let conf = conf_of(alloc, section.line, section.lines)?;
+    let conf = conf_of(alloc, case.section("conf"))?;
     let roster = roster_of(alloc, case.section("people"))?;
     Ok(Book::found(alloc, keeper, conf, roster).ok())
 }

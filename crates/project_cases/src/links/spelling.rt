@@ -1,5 +1,5 @@
 //! Bodies, as cases spell them.
-use case_words::CaseFault;
+use crate::case_fault::CaseFault;
 use std::alloc::Global;
 
 /// The text of a body: `\t` is a TAB, `\n` a line feed, and `\\` a backslash.

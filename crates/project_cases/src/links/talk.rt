@@ -1,6 +1,7 @@
 //! The messages of a connection and the answers to them, as a case has them.
+use crate::case_fault::{CaseFault, CaseWhat};
+use crate::cases::Section;
 use crate::links::spelling::body_of;
-use case_words::{CaseFault, CaseWhat, Section};
 use http_wire::{Answer, Media, answer_bytes};
 use mark_base::Bytes;
 use std::alloc::Global;
@@ -157,7 +158,7 @@ fn push_answer(alloc: Global, talk: &mut Talk, number: u32, line: &str) -> Resul
     if answer.status < 100 || answer.status > 999 {
         return Err(fault);
     }
-    let bytes = answer_bytes(alloc, &answer, place, last)?;
+    let bytes = answer_bytes(alloc, &answer, place, last, false)?;
     talk.answered.extend_from_slice(bytes.items())?;
     talk.place = place;
     Ok(())

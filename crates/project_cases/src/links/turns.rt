@@ -2,10 +2,11 @@
 ghost use Rattle.std.specs.Prelude.{◌<◌};
 ghost use Rattle.project_machine.specs.Legal.{IsLegal};
 
+use crate::case_fault::CaseFault;
+use crate::cases::Case;
 use crate::links::spelling::body_of;
 use crate::links::talk::{spelt_of, talk_of};
 use annotation_http::{Start, serve_message};
-use case_words::{Case, CaseFault};
 use http_wire::{Answer, Message, answer_bytes};
 use mark_base::{Bytes, Memory, Steps, Text};
 use project_book::Visitor;
@@ -49,7 +50,7 @@ fn bytes_at(alloc: Global, answer: &Answer, place: u64) -> Result<Bytes, CaseFau
     if answer.status < 100 || answer.status > 999 {
         return Ok(Bytes::of(alloc, b"a status of other than three digits\n")?);
     }
-    Ok(answer_bytes(alloc, answer, place, false)?)
+    Ok(answer_bytes(alloc, answer, place, false, false)?)
 }
 
 /// Answers the message of a line on a connection, and appends the bytes of the answer.

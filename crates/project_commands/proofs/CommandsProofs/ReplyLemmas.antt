@@ -12,7 +12,7 @@ use Rattle.project_machine.specs.History.{after}
 use Rattle.project_machine.specs.Asking.{IsStep, steps, wants_memory, is_not_kept, step_at}
 use Rattle.program_inputs.specs.declared.trouble.Trouble.{Trouble}
 use Rattle.program_inputs.specs.declared.trouble.Trouble.TheVariants as trouble
-use Rattle.project_commands.specs.Commands.Requests.{Grants, IsGranted, IsReplied, RefusesTo, refuses, lacks_memory, fails_to_keep, is_refused, refusal_in, trouble_of}
+use Rattle.project_commands.specs.Commands.Requests.{Grants, IsGranted, IsReplied, RefusesTo, refuses, lacks_memory, fails_to_keep, is_refused, named_in, refusal_in, trouble_of}
 
 -- what is granted is no refusal
 reply_granted : (s : ProjectState) (caller : List ℕ) (asked : Asked) → is_refused (reply s caller asked) ≡ false
@@ -89,17 +89,11 @@ granted log caller asked answer now (is_not_kept is now_is some room) free = tru
 
 -- ---- a refusal
 
--- what a refusal names
-named_in : Answered → List ℕ
-named_in (Refused r named) = named
-named_in answer = []
-
 none_some : {X A : Type 0} (x : X) → ◌≡◌ {A = Option X} None (Some x) → A
 none_some {X} {A} x e = cc
 
 -- an answer with a refusal is that refusal
 refused_as : (answer : Answered) (r : BookRefusal) → refusal_in answer ≡ Some r → answer ≡ Refused r (named_in answer)
-unfolding named_in
 refused_as (Refused other named) r is = let e : other ≡ r = cc in ap (λ x. Refused x named) e
 refused_as (Conf conf) r is = none_some r is
 refused_as (Docs lines) r is = none_some r is
@@ -172,11 +166,11 @@ keeper_names log caller asked named now (is_not_kept is now_is some room) = is
 
 -- what an answer comes to where it is a refusal
 trouble_in : Answered → Trouble
-trouble_in (Refused r named) = trouble_of r
+trouble_in (Refused r named) = trouble_of r named
 trouble_in answer = trouble.Memory
 
 refuses_to : (log : List Happened) (caller : List ℕ) (asked : Asked) (r : BookRefusal) (named : List ℕ) (now : List Happened) → IsStep log caller asked (Refused r named) now
-    → RefusesTo log caller asked (trouble_of r)
+    → RefusesTo log caller asked (trouble_of r named)
 unfolding trouble_in
 refuses_to log caller asked r named now (steps is now_is room) = refuses r named (sym is) refl
 refuses_to log caller asked r named now (wants_memory is now_is) = lacks_memory (ap trouble_in is)
@@ -184,40 +178,40 @@ refuses_to log caller asked r named now (is_not_kept is now_is some room) = fail
 
 -- why a refused request ends a command
 pub refused_by : (log : List Happened) (caller : List ℕ) (asked : Asked) (answer : Answered) (r : BookRefusal) (now : List Happened) → IsStep log caller asked answer now
-    → refusal_in answer ≡ Some r → RefusesTo log caller asked (trouble_of r)
+    → refusal_in answer ≡ Some r → RefusesTo log caller asked (trouble_of r (named_in answer))
 refused_by log caller asked answer r now stepped is =
     refuses_to log caller asked r (named_in answer) now (subst (λ a. IsStep log caller asked a now) (refused_as answer r is) stepped)
 
 -- a disk is at fault exactly where the keeper failed
-is_keeper : (r : BookRefusal) → trouble_of r ≡ trouble.DiskFailed → r ≡ no.Keeper
-is_keeper no.Keeper is = refl
-is_keeper (no.NotAllowed policy) is = cc
-is_keeper no.NoDocument is = cc
-is_keeper no.NoLayer is = cc
-is_keeper no.NoSnapshot is = cc
-is_keeper no.LayerOut is = cc
-is_keeper no.NotYours is = cc
-is_keeper no.Finished is = cc
-is_keeper no.NothingCommitted is = cc
-is_keeper no.NotFinished is = cc
-is_keeper (no.TooFewFinished finished) is = cc
-is_keeper (no.Broken broken) is = cc
-is_keeper (no.Decision decision) is = cc
-is_keeper no.DocumentThere is = cc
-is_keeper no.ProjectFull is = cc
-is_keeper (no.EntryTooLong bytes) is = cc
-is_keeper no.Memory is = cc
-is_keeper no.AlreadyIgnored is = cc
-is_keeper no.NotIgnored is = cc
+is_keeper : (r : BookRefusal) (named : List ℕ) → trouble_of r named ≡ trouble.DiskFailed → r ≡ no.Keeper
+is_keeper no.Keeper named is = refl
+is_keeper (no.NotAllowed policy) named is = cc
+is_keeper no.NoDocument named is = cc
+is_keeper no.NoLayer named is = cc
+is_keeper no.NoSnapshot named is = cc
+is_keeper no.LayerOut named is = cc
+is_keeper no.NotYours named is = cc
+is_keeper no.Finished named is = cc
+is_keeper no.NothingCommitted named is = cc
+is_keeper no.NotFinished named is = cc
+is_keeper (no.TooFewFinished finished) named is = cc
+is_keeper (no.Broken broken) named is = cc
+is_keeper (no.Decision decision) named is = cc
+is_keeper no.DocumentThere named is = cc
+is_keeper no.ProjectFull named is = cc
+is_keeper (no.EntryTooLong bytes) named is = cc
+is_keeper no.Memory named is = cc
+is_keeper no.AlreadyIgnored named is = cc
+is_keeper no.NotIgnored named is = cc
 
-failed_back : (log : List Happened) (caller : List ℕ) (asked : Asked) (answer : Answered) (r : BookRefusal) (now : List Happened) → IsStep log caller asked answer now
-    → refusal_in answer ≡ Some r → trouble_of r ≡ trouble.DiskFailed → answer ≡ Refused no.Keeper []
-failed_back log caller asked answer r now stepped is failed =
-    let as_keeper : answer ≡ Refused no.Keeper (named_in answer) = refused_as answer no.Keeper (is ∙ ap Some (is_keeper r failed)) in
+failed_back : (log : List Happened) (caller : List ℕ) (asked : Asked) (answer : Answered) (r : BookRefusal) (named : List ℕ) (now : List Happened) → IsStep log caller asked answer now
+    → refusal_in answer ≡ Some r → trouble_of r named ≡ trouble.DiskFailed → answer ≡ Refused no.Keeper []
+failed_back log caller asked answer r named now stepped is failed =
+    let as_keeper : answer ≡ Refused no.Keeper (named_in answer) = refused_as answer no.Keeper (is ∙ ap Some (is_keeper r named failed)) in
     as_keeper ∙ keeper_names log caller asked (named_in answer) now (subst (λ a. IsStep log caller asked a now) as_keeper stepped)
 
-failed_on : (answer : Answered) (r : BookRefusal) → refusal_in answer ≡ Some r → answer ≡ Refused no.Keeper [] → trouble_of r ≡ trouble.DiskFailed
-failed_on answer r is kept = let e : r ≡ no.Keeper = some_same (sym is ∙ ap refusal_in kept) in ap trouble_of e
+failed_on : (answer : Answered) (r : BookRefusal) (named : List ℕ) → refusal_in answer ≡ Some r → answer ≡ Refused no.Keeper [] → trouble_of r named ≡ trouble.DiskFailed
+failed_on answer r named is kept = let e : r ≡ no.Keeper = some_same (sym is ∙ ap refusal_in kept) in ap (λ refusal. trouble_of refusal named) e
   where
     some_same : {x y : BookRefusal} → ◌≡◌ {A = Option BookRefusal} (Some x) (Some y) → x ≡ y
     some_same {x} {y} e = cc
@@ -239,11 +233,11 @@ ok_err : {X A : Type 0} {value : X} {y : Trouble} → ◌≡◌ {A = Result X Tr
 ok_err {X} {A} {value} {y} e = cc
 
 -- a refused request failed where its keeper did
-pub tells_refused : {K X : Type 0} (faults : K → ℕ) (faultless : K → Type 0) (old new : K) (log : List Happened) (caller : List ℕ) (asked : Asked) (answer : Answered) (r : BookRefusal) (now : List Happened)
+pub tells_refused : {K X : Type 0} (faults : K → ℕ) (faultless : K → Type 0) (old new : K) (log : List Happened) (caller : List ℕ) (asked : Asked) (answer : Answered) (r : BookRefusal) (named : List ℕ) (now : List Happened)
     → IsStep log caller asked answer now → refusal_in answer ≡ Some r → TellsKeeper faults faultless old new (answer ≡ Refused no.Keeper [])
-    → TellsKeeper faults faultless old new (IsErrOf {T = X} (Err (trouble_of r)) trouble.DiskFailed)
-tells_refused {K} {X} faults faultless old new log caller asked answer r now stepped is =
-    tells_as faults faultless old new (λ failed. failed_back log caller asked answer r now stepped is (err_same failed)) (λ kept. ap (λ why. Err why) (failed_on answer r is kept))
+    → TellsKeeper faults faultless old new (IsErrOf {T = X} (Err (trouble_of r named)) trouble.DiskFailed)
+tells_refused {K} {X} faults faultless old new log caller asked answer r named now stepped is =
+    tells_as faults faultless old new (λ failed. failed_back log caller asked answer r named now stepped is (err_same failed)) (λ kept. ap (λ why. Err why) (failed_on answer r named is kept))
 
 -- a granted request did not fail
 pub tells_granted : {K X : Type 0} (faults : K → ℕ) (faultless : K → Type 0) (old new : K) (answer : Answered) (value : X) → refusal_in answer ≡ None

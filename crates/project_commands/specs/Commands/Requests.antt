@@ -1,5 +1,5 @@
 -- What a request of a command comes to, and why it ends the command.
-use Rattle.std.specs.Prelude.{◌≡◌, ◌⊎◌, ℕ, Bool, true, List, is_some, length, Option, Some, None, IsSome}
+use Rattle.std.specs.Prelude.{◌≡◌, ◌⊎◌, ℕ, Bool, true, List, [], is_some, length, Option, Some, None, IsSome}
 use Rattle.char_documents.specs.Tokens.{tokens_of}
 use Rattle.entry_bytes.specs.declared.person.Person.{Person}
 use Rattle.conf_model.specs.Configurations.{Configuration}
@@ -26,15 +26,15 @@ pub record IsGranted (log : List Happened) (caller : List ℕ) (asked : Asked) (
   pub answer_is : answer ≡ reply (after log) caller asked
   pub grants : Grants log caller asked answer now
 
--- what the refusal of a project comes to: a keeper that failed is a disk that failed
-abbrev pub trouble_of : BookRefusal → Trouble
-trouble_of no.Keeper = trouble.DiskFailed
-trouble_of no.Memory = trouble.Memory
-trouble_of refusal = trouble.Refused refusal
+-- what the refusal of a project comes to, with what it names: a keeper that failed is a disk that failed
+abbrev pub trouble_of : BookRefusal → (named : List ℕ) → Trouble
+trouble_of no.Keeper named = trouble.DiskFailed
+trouble_of no.Memory named = trouble.Memory
+trouble_of refusal named = trouble.Refused refusal named
 
 -- why a request ends a command: the project refuses it; or memory ran out; or it makes a change, which was not kept, since a disk failed
 pub data RefusesTo (log : List Happened) (caller : List ℕ) (asked : Asked) (why : Trouble) : Type 0 where
-  refuses : (refusal : BookRefusal) (named : List ℕ) → (step_at log caller asked).answer ≡ Refused refusal named → why ≡ trouble_of refusal → RefusesTo log caller asked why
+  refuses : (refusal : BookRefusal) (named : List ℕ) → (step_at log caller asked).answer ≡ Refused refusal named → why ≡ trouble_of refusal named → RefusesTo log caller asked why
   lacks_memory : why ≡ trouble.Memory → RefusesTo log caller asked why
   fails_to_keep : IsSome (step_at log caller asked).change → why ≡ trouble.DiskFailed → RefusesTo log caller asked why
 
@@ -42,6 +42,11 @@ pub data RefusesTo (log : List Happened) (caller : List ℕ) (asked : Asked) (wh
 abbrev pub refusal_in : Answered → Option BookRefusal
 refusal_in (Refused refusal named) = Some refusal
 refusal_in answer = None
+
+-- what an answer that is a refusal names
+abbrev pub named_in : Answered → List ℕ
+named_in (Refused refusal named) = named
+named_in answer = []
 
 -- an answer is a refusal
 abbrev pub is_refused : Answered → Bool

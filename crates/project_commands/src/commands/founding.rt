@@ -44,6 +44,7 @@ pub(crate) fn found_in_memory(
     ensures no_read { IfErr result (λ why. why ≢ Trouble.ReadFault) }
     ensures no_write { IfErr result (λ why. why ≢ Trouble.WriteFault) }
     ensures no_file { IfErr result (λ why. why ≢ Trouble.FileFailed) }
+    ensures no_use { IfErr result (λ why. why ≢ Trouble.DiskInUse) }
 {
     let keeper = MemoryKeeper::new(alloc, Vec::new(alloc), Vec::new(alloc));
     match Book::found(alloc, keeper, conf, roster) {

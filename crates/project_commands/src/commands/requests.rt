@@ -1,5 +1,5 @@
 //! Requests of commands to a project.
-ghost use Rattle.std.specs.Prelude.{◌≡◌, ◌≢◌, [], None, IfErr, IfOk, IsErrOf, OnOk};
+ghost use Rattle.std.specs.Prelude.{◌≡◌, ◌≢◌, [], None, true, IfErr, IfOk, IsErrOf, OnOk};
 ghost use Rattle.http_answers.specs.Answers.Answers.{CanBeShown};
 ghost use Rattle.project_machine.specs.declared.book_refusal.BookRefusal.TheVariants as no;
 ghost use Rattle.project_machine.specs.Asking.{IsStep};
@@ -9,29 +9,30 @@ ghost use Rattle.project_state.specs.Values.{answer_of, asked_of, out_of};
 ghost use Rattle.project_book.specs.Keeping.{TellsKeeper};
 ghost use Rattle.annotation_http.specs.Exchanges.Connections.{desk_on, holding_of};
 ghost use Rattle.annotation_http.specs.Exchanges.Exchanges.{CanBeOpened};
-ghost use Rattle.project_commands.specs.Commands.Requests.{AddsText, ChecksOut, Grants, IsGranted, IsReplied, RefusesTo, refusal_in, trouble_of};
+ghost use Rattle.project_commands.specs.Commands.Requests.{AddsText, ChecksOut, Grants, IsGranted, IsReplied, RefusesTo, is_refused, named_in, refusal_in, trouble_of};
 
 use crate::commands::laws::requests_are_granted_or_refused;
 use annotation_http::{Held, answers_can_be_shown, desks_can_be_opened, open_held};
 use char_documents::Doc;
-use mark_base::{Slug, Steps};
+use mark_base::{Slug, Steps, Text};
 use program_inputs::Trouble;
 use project_book::{Book, BookRefusal, Out, Reply, Request};
 use project_journal::Keeper;
 use std::alloc::Global;
 use std::sync::ledger::Ledger;
 
-/// What the refusal of a project comes to.
-pub(crate) fn trouble_of(refusal: BookRefusal) -> Trouble
-    ensures value { result ≡ trouble_of refusal }
+/// What the refusal of a project comes to, with what it names.
+pub(crate) fn trouble_of(refusal: BookRefusal, named: Text) -> Trouble
+    ensures value { result ≡ trouble_of refusal named }
     ensures no_file { result ≢ Trouble.FileFailed }
     ensures no_read { result ≢ Trouble.ReadFault }
     ensures no_write { result ≢ Trouble.WriteFault }
+    ensures no_use { result ≢ Trouble.DiskInUse }
 {
     match refusal {
         BookRefusal::Keeper => Trouble::DiskFailed,
         BookRefusal::Memory => Trouble::Memory,
-        refusal => Trouble::Refused { refusal },
+        refusal => Trouble::Refused { refusal, named },
     }
 }
 
@@ -66,6 +67,17 @@ fn refusal_in(reply: &Reply) -> Option<BookRefusal>
     }
 }
 
+/// What a reply names that is a refusal.
+fn named_in(reply: Reply) -> Text
+    requires { is_refused (answer_of reply) ≡ true }
+    ensures { result ≡ named_in (answer_of reply) }
+{
+    match reply {
+        Reply::Refused(_, named) => named,
+        _ => unreachable!(),
+    }
+}
+
 /// One request of a caller to a project, and what is granted. Cost: see [`Book::ask`].
 pub fn ask_granted<K: Keeper, G: Ledger>(
     book: &mut Book<K>,
@@ -82,10 +94,11 @@ pub fn ask_granted<K: Keeper, G: Ledger>(
     ensures no_file { IfErr result (λ trouble. trouble ≢ Trouble.FileFailed) }
     ensures no_read { IfErr result (λ trouble. trouble ≢ Trouble.ReadFault) }
     ensures no_write { IfErr result (λ trouble. trouble ≢ Trouble.WriteFault) }
+    ensures no_use { IfErr result (λ trouble. trouble ≢ Trouble.DiskInUse) }
 {
     let reply = ask(book, caller, request, steps);
     match refusal_in(&reply) {
-        Some(refusal) => Err(trouble_of(refusal)),
+        Some(refusal) => Err(trouble_of(refusal, named_in(reply))),
         None => Ok(reply),
     }
 }
@@ -105,6 +118,7 @@ pub fn add_text<K: Keeper, G: Ledger>(
     ensures no_file { IfErr result (λ trouble. trouble ≢ Trouble.FileFailed) }
     ensures no_read { IfErr result (λ trouble. trouble ≢ Trouble.ReadFault) }
     ensures no_write { IfErr result (λ trouble. trouble ≢ Trouble.WriteFault) }
+    ensures no_use { IfErr result (λ trouble. trouble ≢ Trouble.DiskInUse) }
 {
     match ask_granted(book, caller, Request::AddText { doc, text }, steps)? {
         Reply::Added { tokens } => Ok(tokens),
@@ -127,6 +141,7 @@ fn take_out<K: Keeper, G: Ledger>(
     ensures no_file { IfErr result (λ trouble. trouble ≢ Trouble.FileFailed) }
     ensures no_read { IfErr result (λ trouble. trouble ≢ Trouble.ReadFault) }
     ensures no_write { IfErr result (λ trouble. trouble ≢ Trouble.WriteFault) }
+    ensures no_use { IfErr result (λ trouble. trouble ≢ Trouble.DiskInUse) }
 {
     match ask_granted(book, who, Request::Checkout { doc }, steps)? {
         Reply::Out(out) => Ok(out),
@@ -149,6 +164,7 @@ pub fn check_out<K: Keeper, G: Ledger>(
     ensures no_file { IfErr result (λ trouble. trouble ≢ Trouble.FileFailed) }
     ensures no_read { IfErr result (λ trouble. trouble ≢ Trouble.ReadFault) }
     ensures no_write { IfErr result (λ trouble. trouble ≢ Trouble.WriteFault) }
+    ensures no_use { IfErr result (λ trouble. trouble ≢ Trouble.DiskInUse) }
 {
     let named = doc.copy()?;
     let out = take_out(book, &who, named, steps)?;

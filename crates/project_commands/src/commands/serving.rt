@@ -46,6 +46,7 @@ pub fn serve<V: Visitor, C: Link, G: Ledger>(
     ensures stays { V.faultless visitor.old → V.faultless visitor.new }
     ensures folder { IfErr result (λ trouble. trouble ≢ Trouble.FileFailed) }
     ensures disk { IfErr result (λ trouble. trouble ≢ Trouble.DiskFailed) }
+    ensures free { IfErr result (λ trouble. trouble ≢ Trouble.DiskInUse) }
     ensures read { TellsFault (IsErrOf result Trouble.ReadFault) (C.read_faults console.old) (C.read_faults console.new) }
     ensures write { TellsFault (IsErrOf result Trouble.WriteFault) (C.write_faults console.old) (C.write_faults console.new) }
 {

@@ -106,6 +106,7 @@ fn serve_desk<C: Link, G: Ledger>(
     ensures told { ServedFrom (holding_of tried.held) tried.book.log (fails_of_appends tried.book.keeper) (C.left console.old) (C.left console.new) (C.held console.old) (C.held console.new) result }
     ensures folder { IfErr result (λ trouble. trouble ≢ Trouble.FileFailed) }
     ensures disk { IfErr result (λ trouble. trouble ≢ Trouble.DiskFailed) }
+    ensures free { IfErr result (λ trouble. trouble ≢ Trouble.DiskInUse) }
     ensures read { TellsFault (IsErrOf result Trouble.ReadFault) (C.read_faults console.old) (C.read_faults console.new) }
     ensures write { TellsFault (IsErrOf result Trouble.WriteFault) (C.write_faults console.old) (C.write_faults console.new) }
 {
@@ -130,6 +131,7 @@ fn read_project<F: Folder, G: Ledger>(
     ensures cause { TellsFault (IsErrOf result Trouble.FileFailed) (F.folder_faults folder.old) (F.folder_faults folder.new) }
     ensures no_read { IfErr result (λ trouble. trouble ≢ Trouble.ReadFault) }
     ensures no_write { IfErr result (λ trouble. trouble ≢ Trouble.WriteFault) }
+    ensures no_use { IfErr result (λ trouble. trouble ≢ Trouble.DiskInUse) }
     ensures no_disk { IfErr result (λ trouble. trouble ≢ Trouble.DiskFailed) }
 {
     let conf = read_conf_file(alloc, folder, conf)?;
@@ -155,6 +157,7 @@ pub fn try_project<F: Folder, C: Link, G: Ledger>(
     ensures later { F.folder_faults folder.old ≤ F.folder_faults folder.new }
     ensures folder { TellsFault (IsErrOf result Trouble.FileFailed) (F.folder_faults folder.old) (F.folder_faults folder.new) }
     ensures disk { IfErr result (λ trouble. trouble ≢ Trouble.DiskFailed) }
+    ensures free { IfErr result (λ trouble. trouble ≢ Trouble.DiskInUse) }
     ensures read { TellsFault (IsErrOf result Trouble.ReadFault) (C.read_faults console.old) (C.read_faults console.new) }
     ensures write { TellsFault (IsErrOf result Trouble.WriteFault) (C.write_faults console.old) (C.write_faults console.new) }
 {

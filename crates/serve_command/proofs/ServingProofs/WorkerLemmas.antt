@@ -1,19 +1,11 @@
--- What workers that have served still have, and what their ends come to.
-use Rattle.std.proofs.Common.{◌≡◌, ◌≢◌, ℕ, zero, suc, ◌+◌, ◌<◌, ◌||◌, Bool, true, false, List, [], ◌∷◌, length, Option, Some, None, Result, Ok, Err, refl, sym, ap, ◌∙◌, subst, arith}
-use Rattle.std.specs.Prelude.{All, IfErr, IsSomeAnd, slice_index_or, if◌then◌else◌}
-use Rattle.std.specs.List.{list_any}
-use Rattle.std.proofs.lemmas.List.Elements.{All-head, All-tail}
+-- What workers that have served still have.
+use Rattle.std.proofs.Common.{◌≡◌, ℕ, zero, suc, ◌+◌, ◌<◌, List, length, Option, Some, None, refl, sym, ap, ◌∙◌, subst, arith}
+use Rattle.std.specs.Prelude.{All, IsSomeAnd, slice_index_or}
 use Rattle.atomic_table.specs.Seated.{TableId}
 use Rattle.turn_hall.specs.Passes.{PassValue}
 use Rattle.serve_command.specs.declared.doors.worker.Worker.{Worker}
-use Rattle.serve_command.specs.declared.doors.worker.WorkerEnd.{WorkerEnd}
-use Rattle.serve_command.specs.declared.doors.worker.WorkerEnd.TheVariants.{DoorEnded, DoorFailed, Drawn}
-use Rattle.serve_command.specs.Doors.Workers.{HasPass, Served, Serves, Stopped}
-use Rattle.serve_command.specs.declared.serving.serve_end.ServeEnd.{ServeEnd}
-use Rattle.serve_command.specs.declared.serving.serve_end.ServeEnd.TheVariants as serve
-use Rattle.serve_command.specs.Serving.Workers.{HavePasses, IsFirst, IsOther, door_end, has_failed, is_failed, IsServingEnd}
-
--- ---- the passes
+use Rattle.serve_command.specs.Doors.Workers.{HasPass, Served, Serves}
+use Rattle.serve_command.specs.Serving.Workers.{HavePasses, IsFirst, IsOther}
 
 first_served : (id : TableId) (n : ℕ) (p q : PassValue) → IsFirst id n p → Served p q → IsFirst id n q
 first_served id n p q is served = record {
@@ -56,39 +48,3 @@ some_weaker P Q weaker (Some p) has = weaker p has
 pub all_have : (id : TableId) (workers : List Worker) → HavePasses id workers → All (HasPass id) workers
 all_have id workers have zero worker below = some_weaker (IsFirst id (length workers)) (λ p. p.hall ≡ id) (λ p is. is.hall) (slice_index_or workers 0 worker).pass (have.first worker)
 all_have id workers have (suc k) worker below = some_weaker (IsOther id) (λ p. p.hall ≡ id) (λ p is. is.hall) (slice_index_or workers (suc k) worker).pass (have.others (suc k) worker (omega arith) below)
-
--- ---- the ends
-
-not_failed : (sure endless : Type 0) (room : ℕ) (end : Option WorkerEnd) → sure → IsSomeAnd end (Stopped sure endless room) → is_failed end ≡ false
-not_failed sure endless room None s stopped = absurd stopped
-not_failed sure endless room (Some DoorEnded) s stopped = refl
-not_failed sure endless room (Some DoorFailed) s stopped = absurd (stopped.failed s refl)
-not_failed sure endless room (Some Drawn) s stopped = refl
-
-with_pass : (sure endless : Type 0) (pass : Option PassValue) (end : Option WorkerEnd) → sure → IsSomeAnd pass (λ p. IsSomeAnd end (Stopped sure endless p.knows.room)) → is_failed end ≡ false
-with_pass sure endless None end s stopped = absurd stopped
-with_pass sure endless (Some p) end s stopped = not_failed sure endless p.knows.room end s stopped
-
-none_failed : (workers : List Worker) → All (λ worker. has_failed worker ≡ false) workers → list_any has_failed workers ≡ false
-none_failed [] each = refl
-none_failed (worker ∷ workers) each =
-    ap (λ (b : Bool). b || list_any has_failed workers) (All-head (λ w. has_failed w ≡ false) worker workers each)
-    ∙ none_failed workers (All-tail (λ w. has_failed w ≡ false) worker workers each)
-
--- where no door can fail, the workers' ends come to none that failed
-pub sure_end : (sure endless : Type 0) (old new : List Worker) → length new ≡ length old → sure
-    → ((i : ℕ) (worker : Worker) → i < length old → Serves sure endless (slice_index_or old i worker) (slice_index_or new i worker))
-    → IfErr (door_end new) (λ end. end ≢ serve.DoorFailed)
-sure_end sure endless old new same s serves =
-    let none : list_any has_failed new ≡ false = none_failed new (λ i worker below.
-    let here : i < length old = subst (λ (n : ℕ). i < n) same below in
-    with_pass sure endless (slice_index_or new i worker).pass (slice_index_or new i worker).end s (serves i worker here).stopped) in
-    subst (λ (b : Bool). IfErr (if◌then◌else◌ {A = Result (Unit {0}) ServeEnd} b (Err serve.DoorFailed) (Ok tt)) (λ end. end ≢ serve.DoorFailed)) (sym none) tt
-
-serving_by : (b : Bool) → IfErr (if◌then◌else◌ {A = Result (Unit {0}) ServeEnd} b (Err serve.DoorFailed) (Ok tt)) IsServingEnd
-serving_by true = tt
-serving_by false = tt
-
--- the workers' ends come to none, or to a fault of a door
-pub serving_end : (workers : List Worker) → IfErr (door_end workers) IsServingEnd
-serving_end workers = serving_by (list_any has_failed workers)

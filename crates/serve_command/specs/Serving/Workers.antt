@@ -1,11 +1,8 @@
--- The passes of the workers of a project, and what their ends come to.
-use Rattle.std.specs.Prelude.{◌≡◌, ℕ, ◌+◌, ◌<◌, Bool, true, false, List, length, slice_index_or, Option, Some, None, IsSomeAnd, Result, Ok, Err, if◌then◌else◌, ⊤}
-use Rattle.std.specs.List.{list_any}
+-- The passes of the workers of a project, and how serving ends.
+use Rattle.std.specs.Prelude.{◌≡◌, ℕ, ◌+◌, ◌<◌, true, false, List, length, slice_index_or, IsSomeAnd, Result, Err, ⊤}
 use Rattle.atomic_table.specs.Seated.{TableId}
 use Rattle.turn_hall.specs.Passes.{PassValue}
 use Rattle.serve_command.specs.declared.doors.worker.Worker.{Worker}
-use Rattle.serve_command.specs.declared.doors.worker.WorkerEnd.{WorkerEnd}
-use Rattle.serve_command.specs.declared.doors.worker.WorkerEnd.TheVariants.{DoorEnded, DoorFailed, Drawn}
 use Rattle.program_inputs.specs.declared.trouble.Trouble.TheVariants as trouble
 use Rattle.serve_command.specs.declared.serving.serve_end.ServeEnd.{ServeEnd}
 use Rattle.serve_command.specs.declared.serving.serve_end.ServeEnd.TheVariants as serve
@@ -28,22 +25,13 @@ pub record HavePasses (id : TableId) (workers : List Worker) : Type 0 where
   pub first : (worker : Worker) → IsSomeAnd (slice_index_or workers 0 worker).pass (IsFirst id (length workers))
   pub others : (k : ℕ) (worker : Worker) → 0 < k → k < length workers → IsSomeAnd (slice_index_or workers k worker).pass (IsOther id)
 
--- whether an end is that the door failed
-abbrev pub is_failed : Option WorkerEnd → Bool
-is_failed None = false
-is_failed (Some DoorEnded) = false
-is_failed (Some DoorFailed) = true
-is_failed (Some Drawn) = false
-
--- whether a worker's door failed
-abbrev pub has_failed : Worker → Bool
-has_failed worker = is_failed worker.end
-
--- what the ends of workers come to
-abbrev pub door_end : List Worker → Result (Unit {0}) ServeEnd
-door_end workers = if list_any has_failed workers then Err serve.DoorFailed else Ok tt
-
 -- how serving ends where it does not end well: memory ran out, or a door failed
 abbrev pub IsServingEnd : ServeEnd → Type 0
 IsServingEnd (serve.Trouble why) = why ≡ trouble.Memory
+IsServingEnd serve.DoorRefused = ⊥
 IsServingEnd serve.DoorFailed = ⊤
+
+-- how many faults a door has counted by an end: one at least where that is that it failed, and none by any other
+abbrev pub TellsDoor : Result (Unit {0}) ServeEnd → ℕ → Type 0
+TellsDoor (Err serve.DoorFailed) faults = 0 < faults
+TellsDoor end faults = faults ≡ 0

@@ -1,5 +1,5 @@
 //! A door: where connections come in.
-ghost use Rattle.std.specs.Prelude.{ℕ, IfOk, IsOk, IsSome};
+ghost use Rattle.std.specs.Prelude.{◌≡◌, ℕ, IfOk, IsOk, IsSome};
 ghost use Rattle.mark_base.specs.Streams.{HasCause};
 
 use mark_base::{Failed, Link};
@@ -26,4 +26,9 @@ pub trait Door {
         ensures cause { HasCause (door_faults self.old) (door_faults self.new) result }
         ensures sure { sure → IsOk result }
         ensures endless { endless → IfOk result IsSome };
+
+    /// How many calls have failed; none of a door that cannot fail.
+    fn faults(&self) -> u64
+        ensures count { result ≡ door_faults self.now }
+        ensures sure { sure → result ≡ 0 };
 }

@@ -14,6 +14,7 @@ use std::vec::IntoIter;
 pub struct MemoryDoor {
     links: IntoIter<MemoryLink, Global>,
     fails: FailList,
+    faults: u64,
 }
 
 impl MemoryDoor {
@@ -29,6 +30,7 @@ impl MemoryDoor {
         MemoryDoor {
             links: links.into_iter(),
             fails: FailList::new(fails),
+            faults: 0,
         }
     }
 }
@@ -38,7 +40,7 @@ impl Door for MemoryDoor {
 
     type Link = MemoryLink;
 
-    ghost door_faults = { λ door. door.fails.faults };
+    ghost door_faults = { λ door. door.faults };
 
     ghost sure = { ⊥ };
 
@@ -55,9 +57,14 @@ impl Door for MemoryDoor {
         ensures same { OnErr result (links_of self.new ≡ links_of self.old) }
     {
         if self.fails.fails() {
+            self.faults = self.faults.saturating_add(1);
             return Err(Failed);
         }
         Ok(self.links.next())
+    }
+
+    fn faults(&self) -> u64 {
+        self.faults
     }
 }
 
@@ -99,5 +106,9 @@ impl Door for SureDoor {
         ensures next { IfOk result (λ link. sure_links_of self.old ≡ option_to_list link ++ sure_links_of self.new) }
     {
         Ok(self.links.next())
+    }
+
+    fn faults(&self) -> u64 {
+        0
     }
 }

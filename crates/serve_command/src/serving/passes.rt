@@ -1,10 +1,8 @@
-//! The passes of the workers, and what their ends come to.
+//! The passes of the workers.
 ghost use Rattle.std.specs.Prelude.{◌≡◌, ◌+◌, ◌<◌, ◌≤◌, IfOk, length, true};
-ghost use Rattle.std.specs.List.{list_any};
-ghost use Rattle.serve_command.specs.Serving.Workers.{HavePasses, door_end, has_failed};
+ghost use Rattle.serve_command.specs.Serving.Workers.{HavePasses};
 
-use crate::doors::{Worker, WorkerEnd};
-use crate::serving::serve_end::ServeEnd;
+use crate::doors::Worker;
 use mark_base::Memory;
 use project_journal::Keeper;
 use std::alloc::Global;
@@ -62,28 +60,4 @@ pub(crate) fn join_passes<K: Keeper>(hall: &Hall<K>, workers: &mut [Worker]) -> 
         first.join(hall, pass);
     }
     first
-}
-
-/// Whether a worker's door failed.
-fn has_failed(worker: &Worker) -> bool
-    ensures { result ≡ has_failed worker.now }
-{
-    matches!(worker.end, Some(WorkerEnd::DoorFailed))
-}
-
-/// Whether the door of some worker failed.
-fn some_failed(workers: &[Worker]) -> bool
-    ensures { result ≡ list_any has_failed workers.now }
-{
-    workers.iter().any(|worker| has_failed(worker))
-}
-
-/// What the ends of the workers come to: of several that have a fault the first counts.
-pub(crate) fn door_end(workers: &[Worker]) -> Result<(), ServeEnd>
-    ensures { result ≡ door_end workers.now }
-{
-    if some_failed(workers) {
-        return Err(ServeEnd::DoorFailed);
-    }
-    Ok(())
 }

@@ -45,7 +45,7 @@ pub(crate) fn open_in<E: Disk + Drop, P: Pledge>(
     requires { P.given → E.faultless disk }
     ensures opened { IfOk result (λ book. OpensAs (E.holds disk) book.log) }
     ensures refused { IfErr result (λ back. NotOpened (E.holds disk) back.1) }
-    ensures sure { P.given → IfErr result (λ back. E.faultless back.0 × (back.1 ≢ Trouble.DiskFailed)) }
+    ensures sure { P.given → IfErr result (λ back. E.faultless back.0 × (back.1 ≢ Trouble.DiskFailed) × (back.1 ≢ Trouble.DiskInUse)) }
 {
     let (journal, entries) = match Journal::open(alloc, disk) {
         Ok(opened) => opened,

@@ -1,6 +1,6 @@
 use Rattle.std.proofs.Common.{◌∙◌, sym, ap, subst}
 use Rattle.project_journal.specs.MemoryDisks.{bytes_of, FailsNoMore}
-use Rattle.named_disks.proofs.DiskLemmas.{found_at, taken, put, others, keeps_names, taken_fails_no_more, fail_no_more}
+use Rattle.named_disks.proofs.DiskLemmas.{found_at, taken, put, others, has_names, keeps_names, taken_fails_no_more, fail_no_more}
 use Rattle.named_disks.proofs.memory_disks.exchange.Goals as goal
 
 pub returns-clause-taken : goal.returns-clause-taken
@@ -24,3 +24,6 @@ returns-clause-faultless c none = (
   subst FailsNoMore (sym c.replace.ensures.value) (taken_fails_no_more c.args.disks.now.items c.args.place c.index_mut.result.now c.requires c.index_mut.ensures.value none),
   λ fine. fail_no_more c.args.disks.now.items c.args.place c.index_mut.result.now c.replace.new.dest none (subst FailsNoMore (sym c.replace.ensures.after) fine),
 )
+
+pub returns-clause-has : goal.returns-clause-has
+returns-clause-has c name = has_names c.args.disks.now.items c.args.place c.index_mut.result.now c.replace.new.dest name c.index_mut.ensures.value

@@ -1,6 +1,6 @@
 use Rattle.std.proofs.Common.{◌≡◌, ◌∙◌, sym, ap, ◌++◌, ◌∷◌, [], Some, List, ℕ, length, vec_len, rules}
 use Rattle.named_disks.specs.MemoryNames.{place_of, first_bytes, has_name}
-use Rattle.named_disks.proofs.DiskLemmas.{put_last, same_bytes, has_name_still}
+use Rattle.named_disks.proofs.DiskLemmas.{put_last, same_bytes, has_name_other, has_name_still}
 use Rattle.named_disks.proofs.memory_disks.place_for.Goals as goal
 
 -- the disks, and behind them one of length 0 with the name
@@ -19,3 +19,6 @@ returns-clause-same c other = ap (λ disks. first_bytes disks other) (pushed c) 
 pub returns-clause-names : goal.returns-clause-names
 returns-clause-names c out known name among =
     ap (λ disks. has_name disks name) (pushed c) ∙ has_name_still c.args.disks.now.items (c.args.name.now, c.empty_disk.result) name (known name among)
+
+pub returns-clause-has : goal.returns-clause-has
+returns-clause-has c other differ = ap (λ disks. has_name disks other) (pushed c) ∙ has_name_other c.args.disks.now.items c.args.name.now c.empty_disk.result other differ

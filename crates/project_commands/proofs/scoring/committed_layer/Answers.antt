@@ -13,11 +13,18 @@ returns-in-Layer-clause-whole g c =
     c.well_formed_layers_cohere.ensures (arc_value c.in-Layer._conf) (length (arc_value c.in-Layer._doc)) (arc_value c.in-Layer.layer)
     (subst (λ (layer : Annotations). IsLayer layer) c.deref.ensures c.keeps.ensures) c.in-Layer.ensures.shown
 
-pub returns-in-Refused-clause-refused : goal.returns-in-Refused-clause-refused
-returns-in-Refused-clause-refused g c =
-    rw c.trouble_of.ensures.value (reads_or_memory _ _ _ _ c.in-Refused.refusal c.in-Refused._named _ c.requires.curates c.requires.there c.requires.annotates c.in-Refused.ensures.step c.in_default-refusal.not-NoLayer)
-
-pub returns-in-Refused-clause-keeper : goal.returns-in-Refused-clause-keeper
-returns-in-Refused-clause-keeper g c =
-    rw c.trouble_of.ensures.value (tells_refused g.K.Keeper.faults g.K.Keeper.faultless _ _ _ _ _ (Refused c.in-Refused.refusal c.in-Refused._named) c.in-Refused.refusal _ c.in-Refused.ensures.step
-    refl c.in-Refused.ensures.keeper)
+pub returns-in_default-refusal : goal.returns-in_default-refusal
+returns-in_default-refusal g c = record {
+  committed = tt;
+  whole = tt;
+  still = tt;
+  refused = rw c.trouble_of.ensures.value (reads_or_memory _ _ _ _ c.in-Refused.refusal c.in-Refused.named _ c.requires.curates c.requires.there c.requires.annotates c.in-Refused.ensures.step c.in_default-refusal.not-NoLayer);
+  keeper =
+      rw c.trouble_of.ensures.value (tells_refused g.K.Keeper.faults g.K.Keeper.faultless _ _ _ _ _ (Refused c.in-Refused.refusal c.in-Refused.named) c.in-Refused.refusal c.in-Refused.named _ c.in-Refused.ensures.step
+      refl c.in-Refused.ensures.keeper);
+  certain = λ _. tt;
+  no_file = c.trouble_of.ensures.no_file;
+  no_read = c.trouble_of.ensures.no_read;
+  no_write = c.trouble_of.ensures.no_write;
+  no_use = c.trouble_of.ensures.no_use;
+}

@@ -1,7 +1,7 @@
 use Rattle.std.proofs.Common.{◌∙◌, ap, sym, refl, Some, None, bytes_eq}
 use Rattle.std.specs.List.{list_any}
 use Rattle.named_disks.proofs.DiskLemmas.{at_some}
-use Rattle.named_disks.proofs.NameLemmas.{keep, lent, stored_first, struck, struck_other, struck_known}
+use Rattle.named_disks.proofs.NameLemmas.{keep, lent, stored_first, struck, struck_other, struck_known, there_same}
 use Rattle.named_disks.proofs.memory_disks.MemoryDisksDisks.give_back.Goals as goal
 
 pub invariant_of-self : goal.invariant_of-self
@@ -23,6 +23,7 @@ returns-in-Some-clause-others c =
     let at = lent c.args.self.now.disks.items c.deref.result.now c.args.name.now c.place_of.result (Some c.in-Some.place) c.deref.ensures.value c.place_of.ensures c.in-Some.is in
     keep _ c.args.self.now.disks.items c.exchange.new.disks.items c.args.self.now.out.items c.strike.new.out.items
     (λ other differ. c.exchange.ensures.others c.args.name.now other at differ)
+    (λ other differ. c.exchange.ensures.has other)
     (λ other differ. ap (list_any (bytes_eq other)) c.strike.ensures ∙ struck_other c.args.self.now.out.items c.args.name.now other differ)
 
 pub returns-in_default-clause-reads : goal.returns-in_default-clause-reads
@@ -37,4 +38,8 @@ pub returns-in_default-clause-others : goal.returns-in_default-clause-others
 returns-in_default-clause-others c =
     keep _ c.args.self.now.disks.items c.args.self.now.disks.items c.args.self.now.out.items c.strike.new.out.items
     (λ other differ. refl)
+    (λ other differ. refl)
     (λ other differ. ap (list_any (bytes_eq other)) c.strike.ensures ∙ struck_other c.args.self.now.out.items c.args.name.now other differ)
+
+pub returns-in-Some-clause-none_made : goal.returns-in-Some-clause-none_made
+returns-in-Some-clause-none_made c = there_same c.args.self.now.disks.items c.exchange.new.disks.items c.args.name.now (c.exchange.ensures.has c.args.name.now)

@@ -1,5 +1,4 @@
-use Rattle.std.proofs.Common.{◌≡◌, ℕ, List, [], ◌∷◌, ◌++◌, map, option_map, subst}
-use Rattle.project_state.specs.Values.{happened_of}
+use Rattle.std.proofs.Common.{◌≡◌, ℕ, List, [], ◌∷◌, ◌++◌, option_map, subst}
 use Rattle.project_book.specs.Founding.{founding_bytes}
 use Rattle.project_book.proofs.FoundingLemmas.{moment_founded, not_the_keeper, refused_so, stands_founded, tells_nothing}
 use Rattle.project_book.proofs.book.Book.found_at.Goals as goal
@@ -16,6 +15,6 @@ returns-in-Err-clause-keeper g c = tells_nothing g.K.Keeper.faults g.K.Keeper.fa
 
 pub invariant_of-result : goal.invariant_of-result
 invariant_of-result g c =
-    stands_founded c.args.conf c.args.level c.args.roster (map happened_of c.in-Ok.beginning.log.items) c.in-Ok.beginning.state.state c.in-Ok.beginning.groups c.in-Ok.beginning.tables (g.K.Keeper.kept c.args.keeper) (g.K.Keeper.kept c.append.new.self) (g.K.Keeper.doubt c.append.new.self) c.in-Ok.beginning.entry
+    stands_founded c.args.conf c.args.level c.args.roster c.in-Ok.beginning.log c.in-Ok.beginning.state.state c.in-Ok.beginning.groups c.in-Ok.beginning.tables (g.K.Keeper.kept c.args.keeper) (g.K.Keeper.kept c.append.new.self) (g.K.Keeper.doubt c.append.new.self) c.in-Ok.beginning.entry
     c.in-Ok.ensures.begun.founding c.in-Ok.ensures.begun.log c.in-Ok.ensures.begun.state c.in-Ok.ensures.begun.groups c.in-Ok.ensures.begun.tables c.in-Ok.ensures.begun.entry c.requires.empty
     (subst (λ (e : List ℕ). g.K.Keeper.kept c.append.new.self ≡ option_map (λ (es : List (List ℕ)). es ++ e ∷ []) (g.K.Keeper.kept c.args.keeper)) c.items.ensures c.in-Ok-append.ensures.added) c.in-Ok-append.ensures.no_doubt

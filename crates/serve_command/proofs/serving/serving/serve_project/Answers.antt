@@ -1,11 +1,5 @@
-use Rattle.serve_command.proofs.ServingProofs.EndLemmas.{ends_told}
+use Rattle.serve_command.proofs.ServingProofs.EndLemmas.{ends_behind}
 use Rattle.serve_command.proofs.serving.serving.serve_project.Goals as goal
 
 pub returns-clause-ends : goal.returns-clause-ends
-returns-clause-ends g c = ends_told _ _ _ _ _ _ _ _ _ c.serve_disk-disk.result.1 c.in-Ok.ensures.reads c.give_back.ensures.reads c.in-Ok.ensures.faultless c.serve_disk-disk.ensures.ends
-
-pub returns-clause-stays : goal.returns-clause-stays
-returns-clause-stays g c = λ f. c.give_back.ensures.faultless (c.in-Ok.ensures.faults.stays f) (c.serve_disk-disk.ensures.sure (c.in-Ok.ensures.faultless f))
-
-pub returns-clause-never : goal.returns-clause-never
-returns-clause-never g c = λ f. c.serve_disk-disk.ensures.never (c.in-Ok.ensures.faultless f)
+returns-clause-ends g c = ends_behind _ _ _ _ _ _ _ _ c.serve_named-door.result.1 c.serve_named-door.ensures.ends c.serve_named-door.ensures.door c.in-Ok.ensures.cause.still c.give_back-2.ensures.cause
