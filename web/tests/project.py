@@ -20,7 +20,7 @@ from typing import Dict, List, Optional, Tuple
 TOP = Path(__file__).resolve().parents[2]
 sys.path.insert(0, str(TOP / "clients/python/tests"))
 
-from served import PROGRAM, Served, free_port, make_certificate  # noqa: E402
+from served import PROGRAM, Haproxy, Served, free_port  # noqa: E402
 
 from annotate_client import Project  # noqa: E402
 
@@ -87,15 +87,15 @@ class Tried:
     """The project, its server, and the front on a port of its own."""
 
     def __init__(self) -> None:
-        self._folder = tempfile.TemporaryDirectory()
-        self._front: Optional[subprocess.Popen[bytes]] = None
+        self._front: Optional[Haproxy] = None
         self.served = Served(roster=ROSTER)
         try:
             self._fill()
-            self._serve_front()
+            self._front = Haproxy(self.served.port, PEOPLE)
         except BaseException:
             self.end()
             raise
+        self.address = self._front.url
 
     def _fill(self) -> None:
         curator = self.project("cur")
@@ -111,27 +111,6 @@ class Tried:
 
     def project(self, caller: str) -> Project:
         return Project(f"http://127.0.0.1:{self.served.port}", caller, timeout=100)
-
-    def _serve_front(self) -> None:
-        folder = self._folder.name
-        make_certificate(folder)
-        pem = Path(f"{folder}/front.key").read_text() + Path(f"{folder}/front.crt").read_text()
-        Path(f"{folder}/front.pem").write_text(pem)
-        Path(f"{folder}/web").symlink_to(TOP / "web")
-        port = free_port()
-        settings = (TOP / "examples/haproxy.cfg").read_text(encoding="utf-8")
-        settings = settings.replace("127.0.0.1:8443", f"127.0.0.1:{port}").replace("127.0.0.1:8080", f"127.0.0.1:{self.served.port}")
-        settings = settings.replace("127.0.0.1:8081", f"127.0.0.1:{free_port()}")
-        users = "".join(f"    user {name} insecure-password {name}-secret\n" for name in PEOPLE if f"user {name} " not in settings)
-        settings = settings.replace("userlist people\n", f"userlist people\n{users}")
-        Path(f"{folder}/haproxy.cfg").write_text(settings, encoding="utf-8")
-        self._front = subprocess.Popen(["haproxy", "-db", "-f", "haproxy.cfg"], cwd=folder, stdout=subprocess.DEVNULL, stderr=subprocess.DEVNULL)
-        self.address = f"https://127.0.0.1:{port}/news"
-        until = time.monotonic() + 20
-        while self.ask("/page/")[0] == 0:
-            if time.monotonic() > until or self._front.poll() is not None:
-                raise RuntimeError("the front did not start")
-            time.sleep(0.05)
 
     def url(self, person: str, view: str = "") -> str:
         """The address of the page with a person's name and password."""
@@ -156,19 +135,13 @@ class Tried:
         return [(item.name, item.state) for item in self.project("cur").items(number)]
 
     def end_front(self) -> None:
-        if self._front is None:
-            return
-        self._front.terminate()
-        try:
-            self._front.wait(10)
-        except subprocess.TimeoutExpired:
-            self._front.kill()
-            self._front.wait()
+        if self._front is not None:
+            self._front.end()
+            self._front = None
 
     def end(self) -> None:
         self.end_front()
         self.served.end()
-        self._folder.cleanup()
 
 
 class FirstPage:

@@ -15,7 +15,7 @@ import time
 import unittest
 from http.server import BaseHTTPRequestHandler, ThreadingHTTPServer
 from pathlib import Path
-from typing import Any, List, Optional
+from typing import Any, Iterable, List, Optional
 
 HERE = Path(__file__).resolve().parent
 TOP = HERE.parents[2]
@@ -227,6 +227,46 @@ def make_certificate(folder: str) -> None:
     words += ["-days", "2", "-subj", "/CN=127.0.0.1", "-addext", "subjectAltName=IP:127.0.0.1"]
     words += ["-keyout", f"{folder}/front.key", "-out", f"{folder}/front.crt"]
     subprocess.run(words, check=True, stderr=subprocess.DEVNULL)
+
+
+class Haproxy:
+    """HAProxy before a server, with examples/haproxy.cfg but for its ports and with these people, each with a password as `ann-secret`."""
+
+    def __init__(self, target: int, people: Iterable[str]) -> None:
+        self._folder = tempfile.TemporaryDirectory()
+        folder = Path(self._folder.name)
+        make_certificate(self._folder.name)
+        self.certificate = str(folder / "front.crt")
+        (folder / "front.pem").write_text((folder / "front.key").read_text() + (folder / "front.crt").read_text())
+        (folder / "web").symlink_to(TOP / "web")
+        port = free_port()
+        settings = (EXAMPLES / "haproxy.cfg").read_text(encoding="utf-8")
+        for found, wanted in ((8443, port), (8080, target), (8081, free_port())):
+            settings = settings.replace(f"127.0.0.1:{found}", f"127.0.0.1:{wanted}")
+        users = "".join(f"    user {it} insecure-password {it}-secret\n" for it in people if f"user {it} " not in settings)
+        settings = settings.replace("userlist people\n", f"userlist people\n{users}")
+        (folder / "haproxy.cfg").write_text(settings, encoding="utf-8")
+        words = ["haproxy", "-db", "-f", "haproxy.cfg"]
+        self._process = subprocess.Popen(words, cwd=folder, stdout=subprocess.DEVNULL, stderr=subprocess.DEVNULL)
+        self.url = f"https://127.0.0.1:{port}/news"
+        until = time.monotonic() + 30
+        while time.monotonic() < until and self._process.poll() is None:
+            try:
+                socket.create_connection(("127.0.0.1", port)).close()
+                return
+            except OSError:
+                time.sleep(0.05)
+        self.end()
+        raise RuntimeError("the front did not start")
+
+    def end(self) -> None:
+        self._process.terminate()
+        try:
+            self._process.wait(10)
+        except subprocess.TimeoutExpired:
+            self._process.kill()
+            self._process.wait()
+        self._folder.cleanup()
 
 
 class Front:

@@ -1,12 +1,13 @@
 """Several people at once: on different documents, on a layer that is taken over, and sixteen on one text."""
 
+import shutil
 import threading
 import unittest
-from typing import Dict, List
+from typing import Callable, Dict, List
 
-from served import Served, ServedCase
+from served import Haproxy, Served, ServedCase
 
-from annotate_client import DeskRefused
+from annotate_client import DeskRefused, Project
 
 
 class Two(ServedCase):
@@ -76,9 +77,20 @@ class Sixteen(unittest.TestCase):
     """Sixteen annotators, of whom eight are served at a time, mark every word that is theirs of one text."""
 
     WORDS = 320
+    NAMES = [f"p{number:02}" for number in range(16)]
 
-    def annotate(self, number: int, start: threading.Barrier) -> None:
-        project = self.served.project(f"p{number:02}")
+    def setUp(self) -> None:
+        conf = "[entities]\nPerson\n[attributes]\nSure\tArg:Person\n"
+        people = "".join(f"{name},annotator\n" for name in self.NAMES)
+        self.served = Served(conf, people + "cur,curator\n")
+        self.addCleanup(self.served.end)
+        words = "".join(f"w{place:03} " for place in range(self.WORDS))
+        self.assertEqual(self.served.project("cur").add_text("words", words), self.WORDS)
+        self.wrote: Dict[int, List[str]] = {number: [] for number in range(16)}
+        self.commits = {number: 0 for number in range(16)}
+        self.done: List[int] = []
+
+    def annotate(self, number: int, project: Project, start: threading.Barrier) -> None:
         text = project.text("words")
         start.wait()
         with project.desk("words") as desk:
@@ -93,22 +105,17 @@ class Sixteen(unittest.TestCase):
                     self.wrote[number].pop()
                 if place % 5 == 0:
                     desk.commit()
+                    self.commits[number] += 1
             desk.set_attribute("Sure", self.wrote[number][0].split("\t")[0])
             self.wrote[number].append(f"A1\tSure {self.wrote[number][0].split()[0]}")
             desk.commit()
+            self.commits[number] += 1
         self.done.append(number)
 
-    def test_the_file_has_what_each_wrote(self) -> None:
-        conf = "[entities]\nPerson\n[attributes]\nSure\tArg:Person\n"
-        people = "".join(f"p{number:02},annotator\n" for number in range(16))
-        self.served = Served(conf, people + "cur,curator\n")
-        self.addCleanup(self.served.end)
-        self.wrote: Dict[int, List[str]] = {number: [] for number in range(16)}
-        self.done: List[int] = []
-        words = "".join(f"w{place:03} " for place in range(self.WORDS))
-        self.assertEqual(self.served.project("cur").add_text("words", words), self.WORDS)
+    def work(self, project_of: Callable[[str], Project]) -> None:
+        """Has all sixteen annotate at once, and looks at what the file has then."""
         start = threading.Barrier(16)
-        threads = [threading.Thread(target=self.annotate, args=(number, start)) for number in range(16)]
+        threads = [threading.Thread(target=self.annotate, args=(number, project_of(name), start)) for number, name in enumerate(self.NAMES)]
         for thread in threads:
             thread.start()
         for thread in threads:
@@ -116,9 +123,21 @@ class Sixteen(unittest.TestCase):
         self.assertEqual(sorted(self.done), list(range(16)))
         self.served.kill()
         for number, lines in self.wrote.items():
-            # Of the 20 words of each, 6 or 7 have a place that 3 divides.
+            # Of the 20 words of each, 6 or 7 have a place that 3 divides, and 4 one that 5 divides.
             self.assertIn(len(lines), (14, 15))
-            self.assertEqual(self.served.export(f"p{number:02}", "words"), "".join(f"{line}\n" for line in lines))
+            self.assertEqual(self.commits[number], 5)
+            self.assertEqual(self.served.export(self.NAMES[number], "words"), "".join(f"{line}\n" for line in lines))
+        # The founding, the text, and of each annotator the checkout, five commits and the park.
+        self.assertEqual(self.served.run("compact", self.served.book, f"{self.served.book}.new"), "place 114\n")
+
+    def test_the_file_has_what_each_wrote(self) -> None:
+        self.work(self.served.project)
+
+    @unittest.skipUnless(shutil.which("haproxy") and shutil.which("openssl"), "haproxy or openssl is missing")
+    def test_behind_the_front_the_file_has_what_each_wrote(self) -> None:
+        front = Haproxy(self.served.port, self.NAMES)
+        self.addCleanup(front.end)
+        self.work(lambda name: Project(front.url, user=name, password=f"{name}-secret", ca_file=front.certificate, timeout=60))
 
 
 if __name__ == "__main__":
