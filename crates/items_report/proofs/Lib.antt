@@ -1,2 +1,4 @@
 pub mod FoundSteps
 pub mod HeldRows
+pub mod ItemLines
+pub mod HeldLines

@@ -15,8 +15,10 @@ mod files;
 mod holders;
 mod item_row;
 mod items_table;
+mod laws;
 mod table_writer;
 mod worked_rows;
 
 pub use crate::items_table::items_csv;
+pub use crate::laws::items_have_lines;
 pub use crate::worked_rows::examples_of_rows;
