@@ -22,3 +22,5 @@ pub mod CleanLemmas
 pub mod RowLemmas
 pub mod OrderLemmas
 pub mod PlaceLemmas
+pub mod LineFaultLemmas
+pub mod FirstFaultLemmas

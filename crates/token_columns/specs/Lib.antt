@@ -3,6 +3,7 @@ pub mod ColumnFiles
 pub mod FaultNames
 pub mod Fits
 pub mod Labels
+pub mod LineFaults
 pub mod LineShows
 pub mod ReadColumns
 pub mod ReadRuns

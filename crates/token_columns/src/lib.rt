@@ -12,7 +12,8 @@
 //! ```
 //!
 //! What the lines are is defined in `specs/`: `Columns.antt` has the text of a layer, `Fits.antt` which layers
-//! columns can show, `WriteFaults.antt` what is at fault with the others, and `ReadColumns.antt` how a file is read.
+//! columns can show, `WriteFaults.antt` what is at fault with the others, `ReadColumns.antt` how a file is read, and
+//! `LineFaults.antt` each fault of a line by itself.
 #![tactic(auto)]
 
 mod column_fault;
@@ -30,8 +31,8 @@ mod writer;
 
 pub use crate::column_fault::{ColumnFault, ColumnOut, ColumnWhat};
 pub use crate::laws::{
-    at_most_one_layer, files_of_a_layer, layers_that_fit, types_are_labels_of_agreement,
-    written_columns_are_read_back,
+    at_most_one_layer, files_of_a_layer, layers_that_fit, line_faults_are_the_least,
+    told_faults_are_the_first, types_are_labels_of_agreement, written_columns_are_read_back,
 };
 pub use crate::reader::read_columns;
 pub use crate::worked_rows::{worked_columns, worked_spans};
