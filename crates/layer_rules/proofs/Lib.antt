@@ -7,6 +7,7 @@ pub mod FirstSeenLemmas
 pub mod FlawLemmas
 pub mod FullLemmas
 pub mod LawLemmas
+pub mod MemberLemmas
 pub mod OverlapLemmas
 pub mod PairLemmas
 pub mod PassLemmas

@@ -6,6 +6,7 @@ pub mod LayerRules
 pub mod FlawPlaces
 pub mod CarriedByRule
 pub mod MarkRules
+pub mod MemberTypes
 pub mod AttributeValues
 pub mod BadTexts
 pub mod Targets

@@ -1,14 +1,12 @@
 //! The rules that look at one class and at what it names.
-ghost use Rattle.std.specs.Prelude.{◌≡◌, ◌≤◌, ◌||◌, not, length};
-ghost use Rattle.std.specs.List.{list_any};
+ghost use Rattle.std.specs.Prelude.{◌≡◌, ◌≤◌, length};
 ghost use Rattle.layer_rules.specs.FlawPlaces.{first_place, places};
-ghost use Rattle.layer_rules.specs.Targets.{type_of};
-ghost use Rattle.layer_rules.specs.LayerRules.{are_bad_members, equiv_members, is_id, may_be_equal};
+ghost use Rattle.layer_rules.specs.LayerRules.{are_bad_members, equiv_members};
 ghost use Rattle.layer_rules.specs.WellFormed.{at_equiv_members};
 ghost use Rattle.layer_rules.specs.LowestFlaw.{class_rule, first_from};
 
 use crate::mark_rules::{barred_class, missing_ids, unknown_relation, unwanted_members, where_so};
-use crate::targets::{is_id, type_of};
+use crate::member_types::{has_twins, have_unfit_types};
 use conf_model::Conf;
 use layer_model::{Class, Flaw, FlawPlace, Layer, Rule};
 use mark_base::{AnnId, RelId};
@@ -24,43 +22,18 @@ pub fn class_rule(conf: &Conf, layer: &Layer, class: &Class) -> Option<Rule>
         .or(unwanted_members(conf, layer, class.members.items()))
 }
 
-/// Whether some line of a relation type admits the types of two annotations in either order.
-fn may_be_equal(conf: &Conf, layer: &Layer, kind: RelId, a: AnnId, b: AnnId) -> bool
-    ensures { result ≡ may_be_equal conf.now kind.n (type_of layer.now a) (type_of layer.now b) }
-{
-    match (type_of(layer, a), type_of(layer, b)) {
-        (Some(a), Some(b)) => conf.relation_admits(kind, a, b) || conf.relation_admits(kind, b, a),
-        _ => true,
-    }
-}
-
-/// Whether an ID stands among others, or may not be in one class with one of them.
-fn clashes(conf: &Conf, layer: &Layer, kind: RelId, id: AnnId, others: &[AnnId]) -> bool
-    ensures { result ≡ list_any (λ other. is_id id other || not (may_be_equal conf.now kind.n (type_of layer.now id) (type_of layer.now other))) others.now }
-{
-    for other in others {
-        if is_id(id, *other) || !may_be_equal(conf, layer, kind, id, *other) {
-            return true;
-        }
-    }
-    false
-}
-
-/// Whether some ID stands twice, or two may not be in one class.
+/// Whether some ID stands twice, or two may not be in one class. Cost: the IDs where they ascend, each a
+/// look-up, and the square of the number of types that they have; else the square of their number besides.
 pub fn are_bad_members(conf: &Conf, layer: &Layer, kind: RelId, ids: &[AnnId]) -> bool
     ensures { result ≡ are_bad_members conf.now layer.now kind.n ids.now }
 {
-    let mut left = ids;
-    while let Some((id, others)) = left.split_first() {
-        if clashes(conf, layer, kind, *id, others) {
-            return true;
-        }
-        left = others;
+    if has_twins(ids) {
+        return true;
     }
-    false
+    have_unfit_types(conf, layer, kind, ids)
 }
 
-/// The rule on members that do not make a class. Cost: the square of the number of members.
+/// The rule on members that do not make a class. Cost: as `are_bad_members`.
 pub fn equiv_members(conf: &Conf, layer: &Layer, class: &Class) -> Option<Rule>
     ensures { result ≡ equiv_members conf.now layer.now class.now }
 {

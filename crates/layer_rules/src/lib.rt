@@ -24,6 +24,7 @@ mod layer_check;
 mod layer_full;
 mod lowest_flaw;
 mod mark_rules;
+mod member_types;
 mod one_annotation;
 mod overlaps;
 mod repeats;
