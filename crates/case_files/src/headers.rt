@@ -107,6 +107,7 @@ pub enum Header<'f> {
     Then {
         status: u8,
         words: &'f str,
+        form: Form,
     },
     /// The input comes in one piece only.
     Whole,
@@ -312,7 +313,7 @@ struct Body<'f> {
     rest: &'f str,
 }
 
-/// Reads `[text|csv|escaped|escaped-text]`.
+/// Reads `[text|csv|escaped|escaped-text|escaped-csv]`.
 fn read_body(text: &str) -> Body<'_> {
     let (word, rest) = split_word(text);
     match word {
@@ -336,6 +337,11 @@ fn read_body(text: &str) -> Body<'_> {
             form: Form::Escaped,
             rest,
         },
+        "escaped-csv" => Body {
+            media: "text/csv; charset=utf-8",
+            form: Form::Escaped,
+            rest,
+        },
         _ => Body {
             media: "application/json",
             form: Form::Joined,
@@ -344,7 +350,7 @@ fn read_body(text: &str) -> Body<'_> {
     }
 }
 
-/// Reads `STATUS [text|csv|escaped|escaped-text] [place N] [times N] [close]`.
+/// Reads `STATUS [text|csv|escaped|escaped-text|escaped-csv] [place N] [times N] [close]`.
 fn read_answer(rest: &str) -> Option<Answer> {
     let (status, rest) = split_word(rest);
     let status = status.parse::<u16>().ok()?;
@@ -455,12 +461,14 @@ fn read_stored(rest: &str) -> Option<Header<'_>> {
     Some(Header::Stored { name, form })
 }
 
-/// Reads `STATUS WORDS`.
+/// Reads `STATUS [escaped] WORDS`.
 fn read_then(rest: &str) -> Option<Header<'_>> {
-    let (status, words) = split_word(rest);
+    let (status, rest) = split_word(rest);
+    let (escaped, words) = take_word(rest, "escaped");
     Some(Header::Then {
         status: status.parse::<u8>().ok()?,
         words,
+        form: if escaped { Form::Escaped } else { Form::Lines },
     })
 }
 

@@ -1,7 +1,7 @@
 //! What is looked at when the run of a case is over.
 use crate::cases::Section;
 use crate::escapes::content;
-use crate::headers::{Form, Header};
+use crate::headers::Header;
 use crate::malformed::Malformed;
 use crate::prepared::Left;
 use crate::runs::{Run, run_of};
@@ -55,10 +55,14 @@ pub fn looks_of(alloc: Global, sections: &[Section<'_>]) -> Result<Vec<Look>, Ma
                 name: String::from_str(alloc, name)?,
                 expected: content(alloc, section, form)?,
             })?,
-            Header::Then { status, words } => looks.push(Look::Run {
+            Header::Then {
+                status,
+                words,
+                form,
+            } => looks.push(Look::Run {
                 text: String::from_str(alloc, words)?,
                 run: run_of(alloc, words)?,
-                expected: left_of(alloc, status, content(alloc, section, Form::Lines)?),
+                expected: left_of(alloc, status, content(alloc, section, form)?),
             })?,
             _ => {}
         }
