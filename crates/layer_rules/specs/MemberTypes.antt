@@ -1,4 +1,4 @@
--- What makes members no class: an ID that stands twice, or two types that may not be in one class.
+-- What makes members no class: an ID that stands twice, or two types that may not be in one class (private calls only).
 use Rattle.std.specs.Prelude.{ℕ, ◌+◌, ◌==◌, ◌||◌, ◌&&◌, not, Bool, true, false, List, [], ◌∷◌, nat_le}
 use Rattle.std.specs.List.{list_any, count_by}
 use Rattle.mark_base.specs.declared.ann_id.AnnId.{AnnId}
