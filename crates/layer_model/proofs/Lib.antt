@@ -1,3 +1,4 @@
+pub mod AscendingLemmas
 pub mod Chains
 pub mod ClassGone
 pub mod ClassJoin

@@ -3,6 +3,7 @@ ghost use Rattle.std.specs.Prelude.{◌≡◌, ◌==◌, not, ◌≤◌, ◌<◌
 ghost use Rattle.std.specs.List.{filter, list_any};
 ghost use Rattle.layer_model.specs.Classes.{IsClassList, apart, ascending, class_with, comes_before, has_member, has_rank, insert_class, joined, is_among, joined_class, least_of, other_classes, parted, settled, shares, rank, sharing, without_member};
 
+use crate::ascending_ids::ascending_ids;
 use crate::class::Class;
 use crate::id_set::{IdSet, rank};
 use mark_base::{AnnId, IdList, Memory, RelId};
@@ -198,9 +199,11 @@ impl ClassList {
         ensures { IfOk result (λ class. class ≡ joined_class kind members.now self.now) }
     {
         let all = with_sharing(self.alloc, self.classes.as_slice(), kind, sought, members)?;
-        let set = IdSet::of(self.alloc, all.as_slice())?;
-        let members = set.into_list(self.alloc)?;
-        Ok(Class { kind, members })
+        let members = ascending_ids(self.alloc, all.as_slice())?;
+        Ok(Class {
+            kind,
+            members: IdList::from_vec(members),
+        })
     }
 
     /// Adds a class of these members and of all classes of the type that share one.

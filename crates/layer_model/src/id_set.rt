@@ -3,7 +3,7 @@ ghost use Rattle.std.specs.Prelude.{◌≡◌, [], IfOk, OnOk};
 ghost use Rattle.layer_model.specs.Classes.{ascending, is_among, rank, with_id};
 
 use crate::letters::letter_place;
-use mark_base::{AnnId, IdList, Memory};
+use mark_base::{AnnId, Memory};
 use std::alloc::Global;
 use std::collections::BTreeMap;
 use std::marker::Model;
@@ -68,14 +68,5 @@ impl IdSet {
         ensures { result ≡ is_among id self.now }
     {
         self.ids.contains_key(&rank(id))
-    }
-
-    /// The IDs as a list.
-    pub(crate) fn into_list(self, alloc: Global) -> Result<IdList, Memory>
-        ensures { IfOk result (λ list. list ≡ self) }
-    {
-        let IdSet { ids } = self;
-        let ids: Vec<AnnId> = ids.into_values().collect(alloc)?;
-        Ok(IdList::from_vec(ids))
     }
 }

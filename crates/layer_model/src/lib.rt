@@ -19,6 +19,7 @@
 //! word a rule. A [`Snapshot`] shows the finished layers of one text by their holders.
 #![tactic(auto)]
 
+mod ascending_ids;
 mod attribute;
 mod class;
 mod class_list;
