@@ -13,7 +13,7 @@ use Rattle.content_keys.specs.Contents.{IsBuilt}
 use Rattle.content_keys.specs.Tables.{MayAdd, values}
 use Rattle.content_keys.specs.Carrying.{Carries, moved_to}
 use Rattle.content_keys.specs.LayerContents.{content_of, ids_of, node_of}
-use Rattle.content_keys.specs.Places.{AreBuilt, ArePlaced, AreRight, Keeps, Rounds, contents_at, place_of}
+use Rattle.content_keys.specs.Places.{AreBuilt, ArePlaced, AreRight, HasPlace, HavePlaces, Keeps, Rounds, contents_at, place_of}
 use Rattle.content_keys.proofs.IdLemmas.{ids_have, in_ids}
 use Rattle.content_keys.proofs.TableLemmas.{read}
 use Rattle.content_keys.proofs.MoveLemmas.{carried_from, carried_number}
@@ -69,6 +69,11 @@ module _ (l : Annotations) (ids : List AnnId) where
   two : (k n : ℕ) → k < n + 1 → (k < n) ⊎ (k ≡ n)
   two k n h = grind arith
 
+  in_place : (xs : List AnnId) (j : ℕ) (a b : AnnId) → j < length xs → get_or xs j a ≡ get_or xs j b
+  in_place [] j a b h = absurd (omega arith)
+  in_place (y ∷ ys) zero a b h = refl
+  in_place (y ∷ ys) (suc j) a b h = in_place ys j a b (omega arith)
+
   pub rounds_none : (old : BTreeMap ℕ ℕ) → Rounds l ids old old 0
   rounds_none old = record { keeps = λ x h. h; done = λ f p k d h. absurd (omega arith) }
 
@@ -87,11 +92,6 @@ module _ (l : Annotations) (ids : List AnnId) where
           subst P (sym at) (here q.made q.is (λ y m. r.keeps y (p y (names_built f x q.made q.is built y m))))
     ];
   }
-    where
-      in_place : (xs : List AnnId) (j : ℕ) (a b : AnnId) → j < length xs → get_or xs j a ≡ get_or xs j b
-      in_place [] j a b h = absurd (omega arith)
-      in_place (y ∷ ys) zero a b h = refl
-      in_place (y ∷ ys) (suc j) a b h = in_place ys j a b (omega arith)
 
   -- one of a list stands at an index
   pub index_of : (x : AnnId) (xs : List AnnId) → IsIn x xs → (k : ℕ) × ((k < length xs) × (get_or xs k x ≡ x))
@@ -110,6 +110,32 @@ module _ (l : Annotations) (ids : List AnnId) where
       let P : AnnId → Type 0 = λ y. IsSome (place_of new y) in
       let less : k.0 < n = omega (arith, k.1.0, long) in
       subst P k.1.1 (r.done f p k.0 x less (subst B (sym k.1.1) b))
+
+  -- of the annotations so far, each that has a content has a place
+  pub places_step : (mid new : BTreeMap ℕ ℕ) (n : ℕ) (x : AnnId) → HavePlaces l ids mid n → x ≡ get_or ids n x → n < length ids → Keeps mid new → HasPlace l new x → HavePlaces l ids new (n + 1)
+  places_step mid new n x r is within keeps here = record {
+    each = λ k d h s e. elim (two k n h) [
+      | inl less ↦ keeps (get_or ids k d) (r.each k d less s e)
+      | inr same ↦
+          let at : get_or ids k d ≡ x = ap (λ j. get_or ids j d) same ∙ in_place ids n d x within ∙ sym is in
+          let P : AnnId → Type 0 = λ y. IsSome (place_of new y) in
+          let N : AnnId → Type 0 = λ y. node_of l y ≡ Some s in
+          subst P (sym at) (here s (subst N at e))
+    ];
+  }
+
+  pub places_end : (new : BTreeMap ℕ ℕ) (n : ℕ) → HavePlaces l ids new n → ids ≡ ids_of l → length ids ≤ n → (x : AnnId) → HasPlace l new x
+  places_end new n r all long x s e =
+      let L : List AnnId → Type 0 = IsIn x in
+      let k : (j : ℕ) × ((j < length ids) × (get_or ids j x ≡ x)) = index_of x ids (subst L (sym all) (in_ids l x s e)) in
+      let P : AnnId → Type 0 = λ y. IsSome (place_of new y) in
+      let N : AnnId → Type 0 = λ y. node_of l y ≡ Some s in
+      let less : k.0 < n = omega (arith, k.1.0, long) in
+      subst P k.1.1 (r.each k.0 x less s (subst N (sym k.1.1) e))
+
+  -- where each has a place, each that is built to a depth has one
+  pub placed_deep : (places : BTreeMap ℕ ℕ) → ((x : AnnId) → HasPlace l places x) → (f : ℕ) → ArePlaced (suc f) l places
+  placed_deep places has f x b = let q : Parts (node_of l) f x = parts (node_of l) f x b in has x q.made q.is
 
 -- what is put behind the contents of the first annotations
 module _ (l : Annotations) (table : List (Node ℕ)) (places : BTreeMap ℕ ℕ) (right : AreRight l table places) (ids : List AnnId) (i : ℕ) (x : AnnId) (h : i < length ids) (at : x ≡ get_or ids i x) where

@@ -23,6 +23,10 @@ AreRight layer table places = (id : AnnId) (c : ℕ) → place_of places id ≡ 
 abbrev pub Keeps : BTreeMap ℕ ℕ → BTreeMap ℕ ℕ → Type 0
 Keeps old new = (id : AnnId) → IsSome (place_of old id) → IsSome (place_of new id)
 
+-- an annotation that has a content has a place
+abbrev pub HasPlace : Annotations → BTreeMap ℕ ℕ → AnnId → Type 0
+HasPlace layer places id = (s : Node AnnId) → node_of layer id ≡ Some s → IsSome (place_of places id)
+
 -- each annotation that is built to a depth has a place
 abbrev pub ArePlaced : ℕ → Annotations → BTreeMap ℕ ℕ → Type 0
 ArePlaced depth layer places = (id : AnnId) → IsBuilt (node_of layer) depth id → IsSome (place_of places id)
@@ -39,6 +43,10 @@ contents_at contents placed = map (λ p. (p.id, slice_index contents p.place)) p
 pub record Rounds (layer : Annotations) (ids : List AnnId) (old new : BTreeMap ℕ ℕ) (index : ℕ) : Type 0 where
   pub keeps : Keeps old new
   pub done : (depth : ℕ) → ArePlaced depth layer old → (k : ℕ) (d : AnnId) → k < index → IsBuilt (node_of layer) (suc depth) (slice_index_or ids k d) → IsSome (place_of new (slice_index_or ids k d))
+
+-- of the annotations before the index, each that has a content has a place
+pub record HavePlaces (layer : Annotations) (ids : List AnnId) (places : BTreeMap ℕ ℕ) (index : ℕ) : Type 0 where
+  pub each : (k : ℕ) (d : AnnId) → k < index → HasPlace layer places (slice_index_or ids k d)
 
 -- the content of an annotation of a layer
 abbrev pub IsOfMark : Annotations → ℕ → Type 0

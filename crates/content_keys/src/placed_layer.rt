@@ -1,5 +1,5 @@
 //! The annotations of a layer, placed in a table of contents.
-ghost use Rattle.std.specs.Prelude.{◌≡◌, ◌++◌, ℕ, suc, ◌<◌, List, length, map, All, IfOk, IfSome, IsSome, OnOk, Some, option_map, slice_index};
+ghost use Rattle.std.specs.Prelude.{◌≡◌, ◌++◌, ℕ, suc, false, ◌<◌, List, length, map, All, IfOk, IfSome, IsSome, OnOk, Some, option_map, slice_index};
 ghost use Rattle.layer_model.specs.Coherent.{IsCoherent};
 ghost use Rattle.layer_model.specs.Layers.{IsLayer};
 ghost use Rattle.mark_base.specs.declared.ann_id.AnnId.{AnnId};
@@ -7,7 +7,7 @@ ghost use Rattle.content_keys.specs.Carrying.{all_linked, all_moved, Carries};
 ghost use Rattle.content_keys.specs.LayerContents.{class_content, class_contents_of, content_of, contents_of, ids_of, link_of, node_of};
 ghost use Rattle.content_keys.specs.Nodes.{IsIn, Names, number};
 ghost use Rattle.content_keys.specs.Parts.{made_of};
-ghost use Rattle.content_keys.specs.Places.{AreBuilt, ArePlaced, AreRight, IsOfMark, Keeps, contents_at, place_of};
+ghost use Rattle.content_keys.specs.Places.{AreBuilt, ArePlaced, AreRight, HasPlace, IsOfMark, Keeps, contents_at, place_of};
 ghost use Rattle.content_keys.specs.Tables.{AddsOnly, MayAdd, Starts, values};
 
 use crate::carrying::order;
@@ -123,61 +123,68 @@ fn enter(
     Ok(())
 }
 
-/// Gives an annotation a place, if what it names has places.
+/// Gives an annotation a place, if what it names has places, and answers whether it waits for these.
 fn try_place(
     alloc: Global,
     layer: &Layer,
     id: AnnId,
     table: &mut Table,
     places: &mut BTreeMap<u64, u32>,
-) -> Result<(), Memory>
+) -> Result<bool, Memory>
     requires right { AreRight layer.now table.old places.old }
     requires built { AreBuilt layer.now }
     ensures right { OnOk result (AreRight layer.now table.new places.new) }
     ensures here { OnOk result ((s : _) → node_of layer.now id ≡ Some s → ((y : _) → Names y s → IsSome (place_of places.old y)) → IsSome (place_of places.new id)) }
+    ensures settled { IfOk result (λ waits. waits ≡ false → HasPlace layer.now places.new id) }
     ensures keeps { OnOk result (Keeps places.old places.new) }
     ensures grown { Starts table.old table.new }
     ensures only { AddsOnly (IsOfMark layer.now) (values table.old) (values table.new) }
 {
     if place_of(places, id).is_some() {
-        return Ok(());
+        return Ok(false);
     }
     let Some(parts) = parts_of(alloc, layer, id)? else {
-        return Ok(());
+        return Ok(false);
     };
     let Some(shape) = shape_of(alloc, places, parts)? else {
-        return Ok(());
+        return Ok(true);
     };
     if table.is_full() {
         return Err(Memory);
     }
-    enter(alloc, layer, id, shape, table, places)
+    enter(alloc, layer, id, shape, table, places)?;
+    Ok(false)
 }
 
-/// Gives a place to each annotation of which all that it names has places.
+/// Gives a place to each annotation of which all that it names has places, and answers whether another waits.
 fn round(
     alloc: Global,
     layer: &Layer,
     ids: &[AnnId],
     table: &mut Table,
     places: &mut BTreeMap<u64, u32>,
-) -> Result<(), Memory>
+) -> Result<bool, Memory>
     requires right { AreRight layer.now table.old places.old }
     requires built { AreBuilt layer.now }
     requires all { ids.now ≡ ids_of layer.now }
     ensures right { OnOk result (AreRight layer.now table.new places.new) }
     ensures deeper { OnOk result ((depth : ℕ) → ArePlaced depth layer.now places.old → ArePlaced (suc depth) layer.now places.new) }
+    ensures settled { IfOk result (λ waits. waits ≡ false → (id : AnnId) → HasPlace layer.now places.new id) }
     ensures grown { Starts table.old table.new }
     ensures only { AddsOnly (IsOfMark layer.now) (values table.old) (values table.new) }
 {
+    let mut waits = false;
     for id in ids {
-        try_place(alloc, layer, *id, table, places)?;
+        let waiting = try_place(alloc, layer, *id, table, places)?;
+        if waiting {
+            waits = true;
+        }
     }
-    Ok(())
+    Ok(waits)
 }
 
 /// Gives a place to each annotation that has a content: what names nothing in the first round, and then
-/// what names that.
+/// what names that, until nothing waits.
 fn place_all(
     alloc: Global,
     layer: &Layer,
@@ -193,7 +200,10 @@ fn place_all(
 {
     let mut places = BTreeMap::new(alloc);
     for _depth in 0..19u32 {
-        round(alloc, layer, ids, table, &mut places)?;
+        let waits = round(alloc, layer, ids, table, &mut places)?;
+        if !waits {
+            return Ok(places);
+        }
     }
     Ok(places)
 }
@@ -224,7 +234,8 @@ fn listed(
 }
 
 /// The places of the annotations of a layer that have a content, in their order. The contents that the
-/// table lacks are added behind its others. Cost: 19 look-ups for each annotation.
+/// table lacks are added behind its others. Cost: at most 19 look-ups for each annotation, one where what an
+/// annotation names stands before it.
 pub(crate) fn placed_in(
     alloc: Global,
     layer: &Layer,
@@ -293,7 +304,7 @@ fn place_classes(
 }
 
 /// The places of the annotations and classes of a layer. The contents that the table lacks are added behind
-/// its others. Cost: 19 look-ups for each annotation, one for each class.
+/// its others. Cost: as `placed_in`, and a look-up for each class.
 pub(crate) fn layer_placed_in(
     alloc: Global,
     layer: &Layer,
