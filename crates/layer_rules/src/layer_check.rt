@@ -60,8 +60,8 @@ fn least_flaw(alloc: Global, scene: &Scene) -> Result<Option<Flaw>, Memory>
 /// Events may still lack arguments, for which `may_commit` asks. The memory that is taken is given back.
 ///
 /// Cost: the annotations, what they name and their lengths, each a look-up in an ordered map. Two spans
-/// are compared only where the configuration has lines on overlaps; the members of one class are compared
-/// in pairs.
+/// are compared only where the configuration has lines on overlaps; of the members of one class two of each
+/// type are compared.
 pub fn check(alloc: Global, layer: &Layer, doc: &Doc, conf: &Conf) -> Result<(), CheckFault>
     ensures well_formed { OnOk result (IsWellFormed conf.now (length doc.now) layer.now) }
     ensures unflawed { OnOk result (least_flaw conf.now (length doc.now) layer.now ≡ None) }
