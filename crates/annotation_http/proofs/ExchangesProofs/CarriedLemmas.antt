@@ -189,14 +189,14 @@ outcome_given (Ok answer) held outcome new is status left = (outcome_done held o
 outcome_given (Err lack) held outcome new is status (inl e) = (outcome.0, outcome_done held outcome new outcome.0 (inl (ap (λ (d : DeskState). (outcome.0, d)) e)))
 outcome_given (Err lack) held outcome new is status (inr e) = (no_memory, outcome_done held outcome new no_memory (inr (refl, e)))
 
--- a file that is longer than any body is none
-pub long_given : {E : Type 0} (result : Result Answer E) (held : Holding) (bytes : List ℕ) → nat_lt 4194304 (length bytes) ≡ true
+-- a file that is longer than any that is read is none
+pub long_given : {E : Type 0} (result : Result Answer E) (held : Holding) (bytes : List ℕ) → nat_lt 16777216 (length bytes) ≡ true
     → IfOk result (λ answer. answer ≡ fault_answer message.BadBody) → IfOk result (λ answer. IsStatusCode answer.status) → IsGiven result (IsDone (loads held bytes) held held)
 long_given result held bytes long is status =
     given result (fault_answer message.BadBody) (λ answer e. rw long (inl (ap (λ (a : Answer). AtOnce a (Holds held)) (sym e)))) is status
 
 -- any other is read
-pub load_given : {E : Type 0} (result : Result Answer E) (held : Holding) (bytes : List ℕ) (new : DeskState) → nat_lt 4194304 (length bytes) ≡ false
+pub load_given : {E : Type 0} (result : Result Answer E) (held : Holding) (bytes : List ℕ) (new : DeskState) → nat_lt 16777216 (length bytes) ≡ false
     → IfOk result (λ answer. IsOutcome (loaded held.desk bytes) held.desk answer new) → IfOk result (λ answer. IsStatusCode answer.status) → OnErr result (IsLeft (loaded held.desk bytes) held.desk new)
     → IsGiven result (IsDone (loads held bytes) held (with_desk held new))
 load_given result held bytes new short is status left = rw short (outcome_given result held (loaded held.desk bytes) new is status left)

@@ -139,7 +139,7 @@ desk_well held desk.Show bytes = once_well held (shown held.desk) (itself held.d
 desk_well held desk.Do bytes = once_well held (asked held.desk bytes) (asked_ground held.desk (command_of bytes))
 desk_well held desk.Undo bytes = once_well held (undone held.desk) (undone_ground held.desk (last_of held.desk.done))
 desk_well held desk.Redo bytes = once_well held (redone held.desk) (redone_ground held.desk (last_of held.desk.undone))
-desk_well held desk.Load bytes = loads_well held bytes (nat_lt 4194304 (length bytes))
+desk_well held desk.Load bytes = loads_well held bytes (nat_lt 16777216 (length bytes))
 desk_well held desk.Commit bytes = (held, refl, refl, refl, refl, refl)
 desk_well held desk.Park bytes = tt
 

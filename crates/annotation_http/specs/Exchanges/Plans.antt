@@ -47,9 +47,9 @@ commits held = AsksBook (route.Desk desk.Commit) held.who (Commit held.doc held.
 abbrev pub parks : Holding → Plan
 parks held = AsksBook (route.Desk desk.Park) held.who (Park held.doc held.hold held.desk.done held.desk.undone)
 
--- an .ann file is to take the place of the layer of a desk; a body that is longer than any that comes in a message is none
+-- an .ann file is to take the place of the layer of a desk; a body that is longer than any that is read is none
 abbrev pub loads : Holding → List ℕ → Plan
-loads held body = if nat_lt 4194304 (length body) then refuses (Holds held) message.BadBody else at_once held (loaded held.desk body)
+loads held body = if nat_lt 16777216 (length body) then refuses (Holds held) message.BadBody else at_once held (loaded held.desk body)
 
 -- what a route asks of a held desk
 abbrev pub on_desk : Holding → DeskRoute → List ℕ → Plan

@@ -16,14 +16,14 @@ use project_book::Visitor;
 use std::alloc::Global;
 use std::sync::ledger::Ledger;
 
-/// The most bytes that a body has which comes in a message.
-const MOST_BODY: usize = 4_194_304;
+/// The most bytes of an .ann file that is read.
+const MOST_FILE: usize = 16_777_216;
 
 /// Takes an .ann file in place of the layer of a desk.
 fn load(alloc: Global, held: &mut Held, body: &[u8]) -> Result<Answer, Memory>
     ensures { IsGiven result (IsDone (loads (holding_of held.old) body.now) (holding_of held.old) (holding_of held.new)) }
 {
-    if body.len() > MOST_BODY {
+    if body.len() > MOST_FILE {
         return MessageFault::BadBody.answer(alloc);
     }
     load_file(alloc, &mut held.desk, &held.text, &held.conf, body)
