@@ -7,6 +7,7 @@ use Rattle.mark_base.specs.declared.ann_id.AnnId.{AnnId}
 use Rattle.mark_base.specs.declared.table_places.RelId.{RelId}
 use Rattle.layer_model.specs.declared.class.Class.{Class}
 use Rattle.layer_model.specs.Classes.{rank, has_rank, is_among, ascending, shares, sharing, apart, joined_class, joined, insert_class, IsClass, AreDisjoint, Precedes, AreClasses, IsClassList}
+use Rattle.layer_model.proofs.SameIds.{ascending_turned}
 use Rattle.layer_model.proofs.IdSets.{has_rank-ascending, Ascends-ascending}
 use Rattle.layer_model.proofs.ClassOrder.{AreClasses-filter, AreClasses-insert, length-insert_class}
 
@@ -152,11 +153,11 @@ apart-ascending kind ids (x ∷ xs) =
 
 -- ---- what the steps of a join make
 
-pub class_by : (kind : RelId) (ids sought : List AnnId) (classes : List Class) (all made : List AnnId) → sought ≡ ascending ids → all ≡ ids ++ sharing kind.n sought classes → made ≡ ascending all
+pub class_by : (kind : RelId) (ids sought : List AnnId) (classes : List Class) (all made : List AnnId) → sought ≡ ascending ids → all ≡ sharing kind.n sought classes ++ ids → made ≡ ascending all
     → ◌≡◌ {A = Class} (record { kind = kind; members = made }) (joined_class kind ids classes)
 class_by kind ids sought classes all made is gathered put =
     ap (λ ms. let class : Class = record { kind = kind; members = ms } in class)
-    (put ∙ ap ascending (gathered ∙ ap (λ xs. ids ++ xs) (ap (λ s. sharing kind.n s classes) is ∙ sharing-ascending kind.n ids classes)))
+    (put ∙ ap ascending (gathered ∙ ap (λ xs. xs ++ ids) (ap (λ s. sharing kind.n s classes) is ∙ sharing-ascending kind.n ids classes)) ∙ ascending_turned (sharing kind.n ids classes) ids)
 
 pub joined_by : (kind : RelId) (ids sought : List AnnId) (classes kept new : List Class) (class : Class) → sought ≡ ascending ids → class ≡ joined_class kind ids classes → kept ≡ apart kind.n sought classes
     → new ≡ insert_class class kept → new ≡ joined kind ids classes

@@ -11,4 +11,5 @@ pub mod Holders
 pub mod IdSets
 pub mod Maps
 pub mod Numbers
+pub mod SameIds
 pub mod Undo

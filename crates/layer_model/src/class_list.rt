@@ -86,7 +86,7 @@ fn shares(class: &Class, kind: RelId, sought: &IdSet) -> bool
     class.kind.n == kind.n && has_sought(class.members.items(), sought)
 }
 
-/// These members, and those of the classes that share one.
+/// The members of the classes that share one with these, and then these.
 fn with_sharing(
     alloc: Global,
     classes: &[Class],
@@ -94,14 +94,15 @@ fn with_sharing(
     sought: &IdSet,
     members: &[AnnId],
 ) -> Result<Vec<AnnId>, Memory>
-    ensures { IfOk result (λ all. all.items ≡ members.now ++ sharing kind.n sought.now classes.now) }
+    ensures { IfOk result (λ all. all.items ≡ sharing kind.n sought.now classes.now ++ members.now) }
 {
-    let mut all = Vec::from_slice(alloc, members)?;
+    let mut all = Vec::new(alloc);
     for class in classes {
         if shares(class, kind, sought) {
             all.extend_from_slice(class.members.items())?;
         }
     }
+    all.extend_from_slice(members)?;
     Ok(all)
 }
 
