@@ -270,8 +270,9 @@ impl Layer {
     }
 
     /// Adds a class of these members, joined with every class of the type that shares one. Want of
-    /// memory leaves the layer as it was. Cost: the members of the classes of the type and of the list,
-    /// times the logarithm of their number.
+    /// memory leaves the layer as it was. Cost: comparisons as the members of the classes of the type and of
+    /// the list, times the logarithm of their number; and a member that does not belong behind those before
+    /// it moves each behind its place, so that a list that falls moves the square of its number.
     pub fn join(&mut self, kind: RelId, members: IdList) -> Result<(), Memory>
         requires some { 0 < length members }
         requires few { length self.old.classes < 4294967295 }
