@@ -1,5 +1,5 @@
 -- Rules of a command one after another, as the code nests them.
-use Rattle.std.proofs.Common.{◌≡◌, Option, Some, None, refl, ◌∙◌, ap}
+use Rattle.std.proofs.Common.{◌≡◌, true, false, true≢false, Option, Some, None, is_some, refl, sym, ◌∙◌, ap}
 use Rattle.std.specs.Option.{option_or}
 use Rattle.layer_model.specs.declared.rule.Rule.{Rule}
 
@@ -40,6 +40,16 @@ pairs a b c d e o p q r {a'} {b'} {c'} {d'} {e'} os ps qs rs as_ bs cs ds es =
     let p2 : p ≡ option_or c' d' = ps ∙ ap (λ x. option_or x d) cs ∙ ap (option_or c') ds in
     let q2 : q ≡ option_or (option_or a' b') (option_or c' d') = qs ∙ ap (λ x. option_or x p) o2 ∙ ap (option_or (option_or a' b')) p2 in
     rs ∙ ap (λ x. option_or x e) q2 ∙ ap (option_or (option_or (option_or a' b') (option_or c' d'))) es ∙ pairs_ a' b' c' d' e'
+
+-- a rule that is broken stands, whatever comes behind it
+pub stands : (a b : Option Rule) → is_some a ≡ true → a ≡ option_or a b
+stands (Some r) b some = refl
+stands None b some = absurd (true≢false (sym some))
+
+-- where none is broken, what comes behind it
+pub comes_behind : (a b : Option Rule) → is_some a ≡ false → b ≡ option_or a b
+comes_behind None b none = refl
+comes_behind (Some r) b none = absurd (true≢false none)
 
 six_ : (a b c d e f : Option Rule) → option_or (option_or (option_or (option_or (option_or a b) c) d) e) f ≡ option_or a (option_or b (option_or c (option_or d (option_or e (option_or f None)))))
 six_ (Some r) b c d e f = refl

@@ -319,15 +319,17 @@ fn members_refused(conf: &Conf, layer: &Layer, kind: &Name, members: &[AnnId]) -
     where_so(bad, Rule::EquivMembers)
 }
 
-/// The rules of members that are to be one.
+/// The rules of members that are to be one. They are compared only where they break no other rule.
 fn equate(conf: &Conf, layer: &Layer, kind: &Name, members: &[AnnId]) -> Option<Rule>
     ensures { result ≡ first_broken (own_rules conf.now layer.now (Command.Equate kind.now members.now)) }
 {
     let named = undeclared_relation(conf, kind).or(no_equivalence(conf, kind));
     let there = missing_ids(layer, members).or(unwanted_members(conf, layer, members));
-    named
-        .or(there)
-        .or(members_refused(conf, layer, kind, members))
+    let broken = named.or(there);
+    if broken.is_some() {
+        return broken;
+    }
+    members_refused(conf, layer, kind, members)
 }
 
 /// Whether some class of a relation type has an ID.
