@@ -1,0 +1,11 @@
+mod BeginLemmas
+mod FaultLemmas
+mod HolderLemmas
+mod KeepableLemmas
+mod KindLemmas
+mod OrderLemmas
+mod ParkedLemmas
+mod SizeLemmas
+mod StandLemmas
+mod StoredLemmas
+mod VerdictLemmas

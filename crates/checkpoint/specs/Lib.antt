@@ -1,0 +1,5 @@
+pub mod HeldSoFar
+pub mod Projects
+pub mod Reading
+pub mod Runs
+pub mod VerdictReading
