@@ -59,8 +59,8 @@ visiting_pass p short mine = record {
   within = lie_within p.knows.seen (begin p.knows.seen) p.knows.mine (omega arith) mine;
 }
 
-pub visited_pass : (hall hall' : TableId) (v v' w w' : View) (caller : List ℕ) (asked : Asked) (answer : Answered) (place : ℕ) → hall' ≡ hall → v ≡ v' → w ≡ w' → IsTurn v w caller asked answer place → Visited (visiting_of (record { hall = hall; knows = v' })) (visiting_of (record { hall = hall'; knows = w' })) caller asked answer
-visited_pass hall hall' v v' w w' caller asked answer place same is_v is_w t =
+pub visited_pass : (hall hall' : TableId) (v v' w w' : View) (caller : List ℕ) (asked : Asked) (answer : Answered) (place steps_old steps_new : ℕ) → hall' ≡ hall → v ≡ v' → w ≡ w' → IsTurn v w caller asked answer place steps_old steps_new → Visited (visiting_of (record { hall = hall; knows = v' })) (visiting_of (record { hall = hall'; knows = w' })) caller asked answer
+visited_pass hall hall' v v' w w' caller asked answer place steps_old steps_new same is_v is_w t =
     subst (λ (z : View). Visited (visiting_of (record { hall = hall; knows = z })) (visiting_of (record { hall = hall'; knows = w' })) caller asked answer) is_v
     (subst (λ (z : View). Visited (visiting_of (record { hall = hall; knows = v })) (visiting_of (record { hall = hall'; knows = z })) caller asked answer) is_w
     record {

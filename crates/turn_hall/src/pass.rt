@@ -1,9 +1,10 @@
 //! A pass: the right to take turns in a hall, with what was seen there.
-ghost use Rattle.std.specs.Prelude.{◌≡◌, ◌<◌, true, false};
+ghost use Rattle.std.specs.Prelude.{◌≡◌, ◌+◌, ◌<◌, ◌≤◌, true, false};
 ghost use Rattle.project_machine.specs.Asking.{IsVisiting, Visited};
 ghost use Rattle.project_machine.specs.History.{last};
 ghost use Rattle.project_machine.specs.Legal.{IsLegal};
 ghost use Rattle.project_state.specs.Values.{answer_of, asked_of};
+ghost use Rattle.project_book.specs.Visits.{own_steps};
 ghost use Rattle.turn_hall.specs.Passes.{IsSeen, Joined, Learnt, TookTurn, visiting_of};
 ghost use Rattle.turn_hall.specs.Steps.{noted, split_from, split_off};
 
@@ -185,6 +186,7 @@ impl Pass {
         requires room { 0 < self.old.knows.room }
         ensures visited { Visited (visiting_of self.old) (visiting_of self.new) caller.now (asked_of request) (answer_of result) }
         ensures turn { TookTurn self.old self.new }
+        ensures few { steps.new ≤ steps.old + own_steps (visiting_of self.old) (visiting_of self.new) }
     {
         let mut seat = mem::replace(&mut self.badge, Badge::blank()).into_seat();
         let (reply, place) = take_turn(rt, &hall.table.shared, &mut seat, caller, request, steps);

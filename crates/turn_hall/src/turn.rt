@@ -79,7 +79,7 @@ fn ask_in<K: Keeper, G: Ledger>(
     steps: &mut Steps<G>,
 ) -> (Reply, u64)
     requires { IsSome slot.old }
-    ensures { AsksIn K.faults K.faultless slot.old slot.new caller.now (asked_of request) (answer_of result.0) result.1 }
+    ensures { AsksIn K.faults K.faultless slot.old slot.new caller.now (asked_of request) (answer_of result.0) result.1 steps.old steps.new }
 {
     match slot {
         Some(book) => {
@@ -104,7 +104,7 @@ fn ask_held<K: Keeper, G: Ledger>(
     requires held { HasBook seat.old.me.1 }
     ensures table { seat.new.table_id ≡ seat.old.table_id }
     ensures view { seat.new.me.0 ≡ seat.old.me.0 }
-    ensures asked { AsksHeld K.faults K.faultless seat.old.me.1 seat.new.me.1 caller.now (asked_of request) (answer_of result.0) result.1 }
+    ensures asked { AsksHeld K.faults K.faultless seat.old.me.1 seat.new.me.1 caller.now (asked_of request) (answer_of result.0) result.1 steps.old steps.new }
 {
     let slot = seat.slot_mut(shared, 0);
     ask_in(slot, caller, request, steps)
@@ -124,7 +124,7 @@ pub(crate) fn take_turn<K: Keeper, R: Wait, G: Ledger>(
     requires idle { IsIdle seat.old.me.0 × (seat.old.me.1 ≡ []) }
     requires room { (0 < seat.old.me.0.room) × (0 < seat.old.me.0.stands_for) }
     ensures table { seat.new.table_id ≡ seat.old.table_id }
-    ensures turn { IsTurn seat.old.me.0 seat.new.me.0 caller.now (asked_of request) (answer_of result.0) result.1 }
+    ensures turn { IsTurn seat.old.me.0 seat.new.me.0 caller.now (asked_of request) (answer_of result.0) result.1 steps.old steps.new }
     ensures empty { seat.new.me.1 ≡ [] }
 {
     let ticket = shared.fetch_add::<Draw>(seat, 1, 1);

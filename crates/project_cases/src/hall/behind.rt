@@ -1,5 +1,5 @@
 //! A visitor that is answered behind what another does.
-ghost use Rattle.std.specs.Prelude.{◌≡◌};
+ghost use Rattle.std.specs.Prelude.{◌≡◌, ◌+◌, ◌<◌};
 
 use crate::hall::answers::answers_to;
 use crate::hall::guests::found;
@@ -9,12 +9,39 @@ use char_documents::Doc;
 use mark_base::{Slug, Steps};
 use project_book::{Reply, Request, Visitor};
 use std::alloc::Global;
+use std::marker::Brand;
 use std::sync::Wait;
-use std::sync::ledger::Ledger;
+use std::sync::ledger::{Blank, Ledger};
 use turn_hall::{Guest, Hall};
 
+/// One request of a visitor, whose steps are counted apart.
+fn ask_apart<V: Visitor, L: Ledger>(
+    visitor: &mut V,
+    caller: &Slug,
+    request: Request,
+    blank: Blank,
+) -> Reply
+    requires name { blank.name ≡ L.name }
+    requires parts { blank.parts ≡ L.parts }
+    requires some { 0 < L.parts }
+    requires room { 0 < (V.visiting visitor.old).room }
+    ensures { (V.visiting visitor.new).room + 1 ≡ (V.visiting visitor.old).room }
+{
+    let mut steps = Steps::<L>::new(blank);
+    visitor.ask(caller, request, &mut steps)
+}
+
+/// One request of a visitor, whose steps nobody is told.
+fn ask_alone<V: Visitor>(visitor: &mut V, caller: &Slug, request: Request) -> Reply
+    requires { 0 < (V.visiting visitor.old).room }
+    ensures { (V.visiting visitor.new).room + 1 ≡ (V.visiting visitor.old).room }
+{
+    ask_apart::<V, Brand>(visitor, caller, request, Blank::new(1))
+}
+
 /// Before it passes a request on to the first visitor it has the second one ask the last of its requests, or for the
-/// documents where none is left. All that it tells is the first one's, but that its room is the lesser of the two.
+/// documents where none is left, whose steps are counted apart. All that it tells is the first one's, but that its room is
+/// the lesser of the two.
 #[derive(Drop)]
 struct Behind<V: Visitor, W: Visitor> {
     first: V,
@@ -47,7 +74,7 @@ impl<V: Visitor, W: Visitor> Visitor for Behind<V, W> {
             Some(request) => request,
             None => Request::ListDocs,
         };
-        let _reply = self.second.ask(&self.curator, others, steps);
+        let _reply = ask_alone(&mut self.second, &self.curator, others);
         self.first.ask(caller, request, steps)
     }
 }
