@@ -341,14 +341,13 @@ park_told seen faultless (Holds held) old new legal on (answered, visited, quiet
 -- its messages, the last one too, and the last park are told by the history that is seen at the end, and by each that goes on from it
 whole_told : (more : List Happened) (faultless : Type 0) (start : Connection) (old new : Visiting) (ms : List Message) (gs : List Given) (behind : Serving)
     → IsLegal old.seen → Run (serving start old) ms gs behind → IsLastPark faultless behind.connection behind.visiting new
-    → ConnectionToldBy (new.seen ++ more) start old new (record { messages = ms; answers = gs })
+    → ConnectionToldBy (new.seen ++ more) start old new (place_of behind) (record { messages = ms; answers = gs })
 whole_told more faultless start old new ms gs behind legal run parked =
     let first : Serving = serving start old in
     let on : GoesOn behind.visiting.seen new.seen = park_on faultless behind.connection behind.visiting new parked in
     let all : GoesOn old.seen new.seen = goes_through old.seen behind.visiting.seen new.seen (run_on first behind ms gs run) on in
     record {
       behind = behind.connection;
-      place = place_of behind;
       own = run_own first behind ms gs run;
       told = run_told (new.seen ++ more) first behind ms gs legal (goes_through behind.visiting.seen new.seen (new.seen ++ more) on (more, refl)) run;
       made = park_own faultless behind.connection behind.visiting new parked;
@@ -362,7 +361,7 @@ whole_told more faultless start old new ms gs behind legal run parked =
     }
 
 pub connection_tells_one_history : (faultless : Type 0) (start : Connection) (old new : Visiting) (left now before written : Option (List ℕ)) (end : Ending) (more : List Happened)
-    (whole : ConnectionTold faultless start old new left now before written end) → IsLegal old.seen → ConnectionToldBy (new.seen ++ more) start old new (talk_of whole)
+    (whole : ConnectionTold faultless start old new left now before written end) → IsLegal old.seen → ConnectionToldBy (new.seen ++ more) start old new (place_of whole.behind) (talk_of whole)
 connection_tells_one_history faultless start old new left now before written end more whole legal =
     whole_told more faultless start old new (talk_of whole).messages (talk_of whole).answers whole.behind legal
     (ended_run faultless (serving start old) whole.behind left whole.session.held now before written end whole.session.ends) whole.parked

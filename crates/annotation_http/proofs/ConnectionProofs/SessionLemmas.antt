@@ -30,7 +30,7 @@ takes_more bytes middle rest [] message e reads = (rest, rw (← e) reads, refl)
 takes_more bytes middle rest (first ∷ messages) message takes reads =
     (takes.0, takes.1, takes_more takes.0 middle rest messages message takes.2 reads)
 
-takes_known_more : (left between now : Option (List ℕ)) (messages : List Message) (message : Message)
+pub takes_known_more : (left between now : Option (List ℕ)) (messages : List Message) (message : Message)
     → TakesKnown left messages between → TakesMessage between message now → TakesKnown left (messages ++ message ∷ []) now
 takes_known_more None between now messages message p q = tt
 takes_known_more (Some bytes) None now messages message p q = absurd p
@@ -45,7 +45,7 @@ run_more old middle new (first ∷ messages) (reply ∷ answers) message given r
 run_more old middle new [] (reply ∷ answers) message given run step = absurd run
 run_more old middle new (first ∷ messages) [] message given run step = absurd run
 
-bytes_more : (n : ℕ) (old middle : Serving) (messages : List Message) (answers : List Given) (message : Message) (given : Given)
+pub bytes_more : (n : ℕ) (old middle : Serving) (messages : List Message) (answers : List Given) (message : Message) (given : Given)
     → Run old messages answers middle
     → bytes_from n (messages ++ message ∷ []) (answers ++ given ∷ []) ≡ bytes_from n messages answers ++ bytes_of (n + length messages) message given
 bytes_more n old middle [] [] message given run = let e : n + 0 ≡ n = omega arith in rw (e, append-nil) refl

@@ -64,10 +64,9 @@ pub data ParkedBy (seen : List Happened) (n : ℕ) : Connection → List ℕ →
   holds_none : ParkedBy seen n Bare [] n
   is_asked : (held : Holding) (answered : Answered) (made : List ℕ) (k : ℕ) → AskedBy seen n held.who (Park held.doc held.hold held.desk.done held.desk.undone) answered made k → ParkedBy seen n (Holds held) made k
 
--- a whole connection: its messages, the last one too, and the last park. What its visitor has seen goes on from what it had seen, and the places that it calls its own grow by those of the changes that this connection made, in order
-pub record ConnectionToldBy (seen : List Happened) (start : Connection) (old new : Visiting) (talk : Talk) : Type 0 where
+-- a whole connection: its messages, the last one too, up to the place of the answer to that, and the last park. What its visitor has seen goes on from what it had seen, and the places that it calls its own grow by those of the changes that this connection made, in order
+pub record ConnectionToldBy (seen : List Happened) (start : Connection) (old new : Visiting) (place : ℕ) (talk : Talk) : Type 0 where
   pub behind : Connection
-  pub place : ℕ
   pub own : List ℕ
   pub told : ToldBy seen start (last old.seen) talk.messages talk.answers own behind place
   pub made : List ℕ
