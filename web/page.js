@@ -119,8 +119,8 @@ const ADVICE = {
     "HTTP 401": "The front does not know this name and password. Load the page again and sign in.",
     "HTTP 403": "The front refused the request. Open the page by its own address, not inside another one.",
     "HTTP 404": "The front knows no such project. Look at the address.",
-    "HTTP 503": "The server does not run, or all its connections are in use. It serves eight at a time: try again in a minute.",
-    "HTTP 504": "The server gave no answer in time. It serves eight connections at a time: try again in a minute. A verdict may have been taken: look at its state first.",
+    "HTTP 503": "The server does not run, or all its connections are in use. It serves sixty-four at a time: try again in a minute.",
+    "HTTP 504": "The server gave no answer in time. It serves sixty-four connections at a time: try again in a minute. A verdict may have been taken: look at its state first.",
 };
 
 function adviceFor({ refused, of, status }) {

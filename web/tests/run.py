@@ -505,7 +505,7 @@ def gone(checks: Checks, tried: Tried, page: Page) -> None:
     go(page, tried, "cur", "#/documents/2", "#documents")
     tried.served.kill()
     page.click("#documents-count")
-    checks.true("the server is gone", "eight at a time" in trouble(page, "HTTP 503"))
+    checks.true("the server is gone", "sixty-four at a time" in trouble(page, "HTTP 503"))
     tried.end_front()
     page.click("#documents-count")
     checks.true("the front is gone", "could not be reached" in trouble(page, "NoAnswer"))

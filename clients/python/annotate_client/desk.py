@@ -286,7 +286,7 @@ class Desk:
             [span.text for span in desk.layer().spans]  # ['Ann']
         """
         lines = self._ask(None, "GET", "/desk").text()
-        # On the desk's own connection, since another one may have to wait for one of eight to end.
+        # On the desk's own connection, since another one may have to wait for one of the server's to end.
         roles = self._project._roles_by(lambda: self._ask(None, "GET", "/conf"))
         return read_layer(lines, roles)
 

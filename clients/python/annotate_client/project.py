@@ -16,8 +16,8 @@ from .tables import Alpha, Document, Item, Pair, Snapshot, read_alpha, read_item
 class Project:
     """A project at an address, as one person sees it.
 
-    Each method asks on a connection that ends with the answer, since the server serves eight connections at a time: a
-    project holds none, and may be used by several threads. A desk holds one. Used in a `with` statement, a project
+    Each method asks on a connection that ends with the answer, since the server serves sixty-four connections at a time:
+    a project holds none, and may be used by several threads. A desk holds one. Used in a `with` statement, a project
     parks the desks that are still open at its end.
 
     Args:

@@ -237,15 +237,15 @@ class Killed(ServedCase):
         self.assertIn("it was not done", str(caught.exception))
 
     def test_a_server_that_does_not_answer(self) -> None:
-        held = [self.cid_desk(place) for place in range(8)]
-        # A ninth connection waits until one of the eight ends.
+        held = [self.cid_desk(place) for place in range(64)]
+        # A sixty-fifth connection waits until one of these ends.
         hasty = Project(f"http://127.0.0.1:{self.served.port}", "ann", timeout=0.3)
         with self.assertRaises(ConnectionLost) as caught:
             hasty.docs()
         self.assertTrue(caught.exception.perhaps_done)
         for desk in held:
             desk.park()
-        self.assertEqual(len(self.ann.docs()), 9)
+        self.assertEqual(len(self.ann.docs()), 65)
 
     def cid_desk(self, place: int) -> Desk:
         self.cur.add_text(f"text{place}", "Ann")

@@ -58,11 +58,11 @@ class Two(ServedCase):
             self.assertEqual(desk.steps.done, 1)
 
 
-class Eight(ServedCase):
-    def test_eight_desks_at_once(self) -> None:
-        for place in range(8):
+class SixtyFour(ServedCase):
+    def test_a_desk_on_each_connection(self) -> None:
+        for place in range(64):
             self.cur.add_text(f"text{place}", "Ann")
-        desks = [self.served.project("ann").desk(f"text{place}") for place in range(8)]
+        desks = [self.served.project("ann").desk(f"text{place}") for place in range(64)]
         # All connections that are served are taken now: each desk asks on its own, the configuration too.
         for desk in desks:
             desk.add_span("Person", (0, 3))
@@ -74,7 +74,7 @@ class Eight(ServedCase):
 
 
 class Sixteen(unittest.TestCase):
-    """Sixteen annotators, of whom eight are served at a time, mark every word that is theirs of one text."""
+    """Sixteen annotators mark every word that is theirs of one text, all at once."""
 
     WORDS = 320
     NAMES = [f"p{number:02}" for number in range(16)]

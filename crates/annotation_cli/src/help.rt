@@ -18,7 +18,7 @@ BOOK, OLD and NEW are files of projects. Each other file is only read. --version
       annotate found-at news.book news.conf people.csv 0
   add BOOK CALLER NAME TEXT      adds a document
       annotate add news.book cur rome rome.txt
-  serve BOOK PORT                serves the project on 127.0.0.1, to eight connections at a time
+  serve BOOK PORT                serves the project on 127.0.0.1, to sixty-four connections at a time
       annotate serve news.book 8080
   session BOOK                   serves the project on the console
       annotate session news.book <requests

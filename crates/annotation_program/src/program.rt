@@ -49,7 +49,7 @@ fn serve<R: Threads + Wait + Sync, P: Sink, D: Disks, O: Doors>(
 /// Runs the command of these words, those after the program's name, and gives its status.
 ///
 /// `serve BOOK PORT` asks for a port of this machine, opens the project of a file and serves the connections that come in at
-/// the port, up to eight at a time, until it gives no more; a fault of one connection ends that one alone. All other words are those
+/// the port, up to sixty-four at a time, until it gives no more; a fault of one connection ends that one alone. All other words are those
 /// of [`annotation_cli::run::run_alone`], with its statuses. 5 comes also where the port is not had or fails, by `door: Failed`.
 /// Of these calls `serve` alone may wait, and asks for a door; it neither reads the folder nor touches the console.
 pub fn run<R: Threads + Wait + Sync, F: Folder, C: Link, P: Sink, D: Disks, O: Doors>(

@@ -3,7 +3,7 @@ mod BookLemmas
 mod NumberLemmas
 mod AskLemmas
 mod FoundingLemmas
-mod VisitLemmas
+pub mod VisitLemmas
 mod RestoredLemmas
 mod AcceptLemmas
 mod ViewLemmas

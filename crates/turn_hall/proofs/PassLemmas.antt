@@ -123,7 +123,7 @@ module _ {K : Type 0} (first_log : List Happened) where
 
   parts : (s : St K) (h : Rule s) (id : ℕ) (v l r : View) → get_elem? s.views id ≡ m.some v
       → ((p : ℕ) → has_ticket p l + has_ticket p r ≡ has_ticket p v) → has_taken l + has_taken r ≡ has_taken v → ((p : ℕ) → has_place p l + has_place p r ≡ has_place p v) → l.drawn + r.drawn ≡ v.drawn
-      → l.stands_for + r.stands_for + v.splits ≡ v.stands_for + l.splits + r.splits → total splits_of s.views + l.splits + r.splits ≤ 15 + v.splits → first_of l + first_of r ≡ first_of v
+      → l.stands_for + r.stands_for + v.splits ≡ v.stands_for + l.splits + r.splits → total splits_of s.views + l.splits + r.splits ≤ 255 + v.splits → first_of l + first_of r ≡ first_of v
       → Fits h.turn h.history l → Fits h.turn h.history r
       → Rule record { words = s.words; homes = s.homes; views = set s.views id l ++ r ∷ [] }
   parts s h id v l r at tickets taken places drawn stands splits firsts left right = record {
@@ -144,7 +144,7 @@ module _ {K : Type 0} (first_log : List Happened) where
     fits = all_snoc (Fits h.turn h.history) (set s.views id l) r (all_set (Fits h.turn h.history) s.views id l left (λ j u _ e. h.fits j u e)) right;
   }
 
-  pub cuts : (id : ℕ) (v : View) → v.first ≡ true → v.splits < 15 → 0 < v.stands_for → Splits Rule id v (split_from v) (split_off v)
+  pub cuts : (id : ℕ) (v : View) → v.first ≡ true → v.splits < 255 → 0 < v.stands_for → Splits Rule id v (split_from v) (split_off v)
   cuts id v first few stands s h at =
       let f = h.fits id v at in
       let own = alone s h id v at first in

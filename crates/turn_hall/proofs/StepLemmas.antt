@@ -100,7 +100,7 @@ giving_places v log now seen mine grown =
     ascend_append (begin now) (last log) (last now) v.mine (gained log now) (omega arith) grown.later (subst (λ n. AscendWithin n (last log) v.mine) (sym first) before) grown.ascend
 
 module _ {K : Type 0} (opening : List Happened) where
-  bound : (s : St K) (h : Holds opening s) → h.next ≤ 68719476736
+  bound : (s : St K) (h : Holds opening s) → h.next ≤ 1099511627776
   bound s h =
       let le = total_le drawn_of stands_of s.views (λ j v e. let d = (h.fits j v e).drawn in omega arith) in
       let a = h.drawn in let b = h.stand in let c = h.cut in

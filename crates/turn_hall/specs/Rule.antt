@@ -27,7 +27,7 @@ pub record Fits (turn : ℕ) (history : List Happened) (v : View) : Type 0 where
   pub note : v.stands_for ≡ 0 → (v.mine ≡ []) × (v.faults ≡ 0) × (v.ticket ≡ None) × (v.first ≡ false)
   pub splits : v.first ≡ false → v.splits ≡ 0
 
--- the rule. Each ticket from the turn on is one view's, and no other is any view's. Each place above the opening's is one view's own, once. The tickets drawn are those of all views. All views together stand for one pass more than there were splits, of which there are at most 15, all of the first pass
+-- the rule. Each ticket from the turn on is one view's, and no other is any view's. Each place above the opening's is one view's own, once. The tickets drawn are those of all views. All views together stand for one pass more than there were splits, of which there are at most 255, all of the first pass
 pub record Holds {K : Type 0} (opening : List Happened) (s : State (Option (BookValue K)) View) : Type 0 where
   pub turn : ℕ
   pub next : ℕ
@@ -41,6 +41,6 @@ pub record Holds {K : Type 0} (opening : List Happened) (s : State (Option (Book
   pub places : (p : ℕ) → total (has_place p) s.views ≡ within (last opening + 1) (last history + 1) p
   pub drawn : next ≡ total drawn_of s.views
   pub stand : total stands_of s.views ≡ total splits_of s.views + 1
-  pub cut : total splits_of s.views ≤ 15
+  pub cut : total splits_of s.views ≤ 255
   pub firsts : total first_of s.views ≡ 1
   pub fits : (j : ℕ) (v : View) → get_elem? s.views j ≡ slot.some v → Fits turn history v

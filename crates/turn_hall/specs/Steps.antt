@@ -89,4 +89,4 @@ module _ {K : Type 0} where
     pub same : n ≡ m
     pub shorter : IsPrefix m.0.shorter m.0.seen
     pub mine : ArePlacesOf m.0.seen m.0.mine
-    pub few : m.0.stands_for ≤ 16
+    pub few : m.0.stands_for ≤ 256

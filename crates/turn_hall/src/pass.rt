@@ -92,11 +92,11 @@ impl Pass {
     }
 
     /// Makes another pass, which has seen what this one has, has made no change, and may ask as often as this one still
-    /// may. Only the first pass of a hall is split, and at most 15 times.
+    /// may. Only the first pass of a hall is split, and at most 255 times.
     pub fn split<K: Keeper>(&mut self, hall: &Hall<K>) -> Pass
         requires hall { self.old.hall ≡ hall.now.id }
         requires first { self.old.knows.first ≡ true }
-        requires few { self.old.knows.splits < 15 }
+        requires few { self.old.knows.splits < 255 }
         ensures hall { (self.new.hall ≡ self.old.hall) × (result.hall ≡ self.old.hall) }
         ensures pass { self.new.knows ≡ split_from self.old.knows }
         ensures new { result.knows ≡ split_off self.old.knows }

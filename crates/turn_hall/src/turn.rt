@@ -23,7 +23,7 @@ use std::sync::ledger::Ledger;
 const LOOKS: u32 = 100;
 
 /// Waits until the turn is the ticket's, and takes the book. A thread that waits looks at the turn a few times, and then
-/// sleeps until it goes on; it sleeps only while the low 32 bits of the turn are those that it found, and at most 16
+/// sleeps until it goes on; it sleeps only while the low 32 bits of the turn are those that it found, and at most 256
 /// tickets are out at a time.
 fn wait_for_turn<K: Keeper, R: Wait>(
     rt: &R,

@@ -114,10 +114,10 @@ fn serve_worker<K: Keeper, D: Door, R: Wait>(
     worker.end = Some(end);
 }
 
-/// Serves the connections of a door, each worker one at a time with its own pass of a hall, by at most eight threads.
-/// Where a thread cannot be made, a worker begins when another has stopped. A worker stops where the door ends or
-/// fails, or where its pass may ask fewer than 1,000,002 times, which is looked at before each connection; the others
-/// go on. Afterwards each has its pass again, with what it has seen by now.
+/// Serves the connections of a door, each worker one at a time with its own pass of a hall, by at most sixty-four
+/// threads. Where a thread cannot be made, a worker begins when another has stopped. A worker stops where the door ends
+/// or fails, or where its pass may ask fewer than 1,000,002 times, which is looked at before each connection; the
+/// others go on. Afterwards each has its pass again, with what it has seen by now.
 ///
 /// A fault of one connection ends that one alone, as does want of memory, and its link is dropped. A link that waits
 /// for its peer holds up its worker and no other. Cost, read off the code and not measured: what `serve_link` costs
@@ -135,7 +135,7 @@ pub fn serve_all<R: Threads + Wait + Sync, K: Keeper + Send + Drop, D: Door + Se
     thread::for_each_mut(
         rt,
         workers,
-        8,
+        64,
         &|_, worker: &mut Worker|
             requires { HasPass hall.now.id worker.now }
             ensures { Serves D.sure D.endless worker.entry.now worker.exit.now }

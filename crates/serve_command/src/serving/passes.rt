@@ -9,11 +9,11 @@ use std::alloc::Global;
 use turn_hall::{Hall, Pass};
 
 /// How many workers serve a project.
-const WORKERS: usize = 8;
+const WORKERS: usize = 64;
 
-/// Eight workers that have no pass yet.
+/// Sixty-four workers that have no pass yet.
 pub(crate) fn idle_workers(alloc: Global) -> Result<Vec<Worker>, Memory>
-    ensures { IfOk result (λ workers. length workers.items ≡ 8) }
+    ensures { IfOk result (λ workers. length workers.items ≡ 64) }
 {
     let mut workers = Vec::new(alloc);
     for _ in 0..WORKERS {
@@ -31,7 +31,7 @@ pub(crate) fn give_passes<K: Keeper>(hall: &Hall<K>, first: Pass, workers: &mut 
     requires first { first.knows.first ≡ true }
     requires whole { (first.knows.splits ≡ 0) × (first.knows.stands_for ≡ 1) }
     requires some { 0 < length workers.old }
-    requires few { length workers.old ≤ 16 }
+    requires few { length workers.old ≤ 256 }
     ensures { HavePasses hall.now.id workers.new }
 {
     let mut first = first;

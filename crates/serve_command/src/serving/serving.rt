@@ -36,7 +36,7 @@ fn serve_hall<R: Threads + Wait + Sync, K: Keeper + Send + Drop, D: Door + Send 
     requires first { first.knows.first ≡ true }
     requires whole { (first.knows.splits ≡ 0) × (first.knows.stands_for ≡ 1) }
     requires some { 0 < length workers.old }
-    requires few { length workers.old ≤ 16 }
+    requires few { length workers.old ≤ 256 }
     ensures hall { result.hall ≡ hall.now.id }
     ensures first { result.knows.first ≡ true }
     ensures all { result.knows.stands_for ≡ result.knows.splits + 1 }
@@ -146,7 +146,7 @@ fn serve_named<R: Threads + Wait + Sync, D: Disks, O: Door + Send + Drop>(
 }
 
 /// The command `serve NAME PORT`: asks for the door of a port, opens the project in the file of a name, and serves the
-/// connections that come in, as up to eight at a time, until the door ends or fails, or no worker has room for one more.
+/// connections that come in, as up to sixty-four at a time, until the door ends or fails, or no worker has room for one more.
 /// Then, or where memory ran out, the disk of the project is given back to its name, and the door to the doors. Where the
 /// door is refused, the file is not looked at, nor where it comes with a fault that it has counted.
 ///

@@ -12,5 +12,5 @@ split_seat-other-requires g c =
     let w = c.hall.invariant.0 in (
       search rules,
       omega arith,
-      cuts _ _ _ (ap (λ (v : View). v.first) known ∙ c.requires.first) (subst (λ (v : View). v.splits < 15) (sym known) c.requires.few) (subst (λ (v : View). 0 < v.stands_for) (sym mine) some_part),
+      cuts _ _ _ (ap (λ (v : View). v.first) known ∙ c.requires.first) (subst (λ (v : View). v.splits < 255) (sym known) c.requires.few) (subst (λ (v : View). 0 < v.stands_for) (sym mine) some_part),
     )
