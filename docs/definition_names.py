@@ -10,7 +10,7 @@ import pathlib
 import re
 
 # What needs no `use` line, in definitions and in code.
-BUILT_IN = set("→ × : = | _ . , ; ↦ in as elim let record where Type Prop ⊥ tt Unit absurd unfolding ¬ cc search grind omega simp".split())
+BUILT_IN = set("→ × : = | _ . , ; ↦ in as elim let record where Type Prop ⊥ tt Unit absurd unfolding ¬ cc rw simp search grind omega hlevel".split())
 CASES_OF_THE_KIT = set("true false zero suc pos negsuc refl tt inl inr ∷".split())
 RUST_PRELUDE = set("Option Result Vec Box String Some None Ok Err Drop Sync Send Sized Copy Clone Fn".split())
 RUST_NUMBERS = set("bool char str u8 u16 u32 u64 u128 usize i8 i16 i32 i64 i128 isize".split())
