@@ -3,11 +3,11 @@ use Rattle.std.proofs.Common.{◌≡◌, ℕ, ◌+◌, ◌-◌, ◌*◌, ◌/◌
 use Rattle.std.specs.Str.{IsUtf8, IsCharBoundary, all_scalars}
 use Rattle.std.specs.Char.{encode_utf8}
 use Rattle.std.proofs.lemmas.Bool.{and_parts}
-use Rattle.std.proofs.lemmas.List.{take-append-drop, get_or_push}
+use Rattle.std.proofs.lemmas.List.{take-append-drop, get_or_push, length-take-le}
 use Rattle.std.proofs.Math.Seq.{drop-cons, drop-drop, drop-append_seam}
 use Rattle.std.proofs.Math.ListN.{get_or-append}
 use Rattle.std.proofs.Math.Utf8.{scalar}
-use Rattle.std.proofs.lemmas.Str.{encodes-append, encodes-chars, scalars-chars, chars-encodes, encode_same, IsCharBoundary-at_seam, length-encode, len_utf8_bounds}
+use Rattle.std.proofs.lemmas.Str.{encodes-append, encodes-chars, scalars-chars, chars-encodes, encode_same, IsCharBoundary-at_seam, length-encode, length-le-encodes, len_utf8_bounds}
 use Rattle.char_documents.specs.Checkpoints.{byte_of, IsMarked}
 
 -- characters are still characters behind a place
@@ -88,6 +88,13 @@ byte_behind text rest i utf8 at = let whole = front_bytes text i utf8 in let sam
 
 pub rest_fits : (text rest : List ℕ) (i : ℕ) → IsUtf8 text → rest ≡ encode_utf8_all (drop i (chars text)) → length rest ≤ length text
 rest_fits text rest i utf8 at = let whole = front_bytes text i utf8 in let same = ap length at in omega (arith, whole, same)
+
+-- where each character is one byte, the character of an index begins at the byte of that index
+pub byte_of_single : (text : List ℕ) (i : ℕ) → IsUtf8 text → length text ≡ length (chars text) → i ≤ length (chars text) → byte_of text i ≡ i
+unfolding byte_of
+byte_of_single text i utf8 single within =
+    let whole = front_bytes text i utf8 in
+    omega (arith, whole, single, within, length-le-encodes (take i (chars text)), length-le-encodes (drop i (chars text)), length-take-le i (chars text) within, length-drop i (chars text))
 
 pub byte_of_first : (text : List ℕ) → byte_of text 0 ≡ 0
 unfolding byte_of

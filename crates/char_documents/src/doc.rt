@@ -121,7 +121,7 @@ impl Doc {
         if count > LONGEST_TEXT {
             return Err(DocFault::TooLong);
         }
-        let marks = checkpoints(alloc, text)?;
+        let marks = checkpoints(alloc, text, count)?;
         let tokens = tokens(alloc, text)?;
         let text = String::from_str(alloc, text)?;
         Ok(Doc {
@@ -156,7 +156,8 @@ impl Doc {
     }
 
     /// What a fragment covers, or `None` where it starts behind its end or ends behind the text.
-    /// Cost: at most 255 characters are passed for each end, whatever the length of the text.
+    /// Cost: at most 255 characters are passed for each end, whatever the length of the text, and none where each
+    /// character of the text is one byte.
     pub fn slice(&self, frag: Frag) -> Option<&str>
         ensures within { is_some result ≡ lies_in self.now frag }
         ensures bytes { IfSome result (λ piece. piece.now ≡ encode_utf8_all (covered self.now frag)) }
@@ -166,8 +167,9 @@ impl Doc {
             return None;
         }
         let text = self.text.as_str();
-        let start = byte_of(text, &self.marks, frag.start as usize);
-        let end = byte_of(text, &self.marks, frag.end as usize);
+        let count = self.count as usize;
+        let start = byte_of(text, count, &self.marks, frag.start as usize);
+        let end = byte_of(text, count, &self.marks, frag.end as usize);
         Some(&text[start..end])
     }
 

@@ -1,6 +1,9 @@
-use Rattle.std.proofs.Common.{◌*◌, ◌/◌, ◌%◌, arith, get_or}
-use Rattle.char_documents.proofs.CheckpointLemmas.{mark_boundary, mark_before, enough, found, found_fits}
+use Rattle.std.proofs.Common.{◌∙◌, sym, ◌*◌, ◌/◌, ◌%◌, arith, get_or}
+use Rattle.char_documents.proofs.CheckpointLemmas.{mark_boundary, mark_before, enough, found, found_fits, byte_of_single}
 use Rattle.char_documents.proofs.checkpoints.byte_of.Goals as goal
+
+pub returns-then-text-count : goal.returns-then-text-count
+returns-then-text-count c = sym (byte_of_single c.args.text.now c.args.index c.utf8.text (c.if-text-count.true ∙ c.requires.counted) c.requires.within)
 
 pub range_from-requires : goal.range_from-requires
 range_from-requires c = λ _. mark_boundary c.args.text.now _ (256 * (c.args.index / 256)) c.utf8.text (mark_before c.args.text.now c.args.marks.now c.args.index c.requires.marked c.requires.within)
