@@ -57,12 +57,12 @@ impl Spell<Span> for Page<'_> {
 
     fn push(
         &self,
-        alloc: Global,
+        _alloc: Global,
         out: &mut String,
         number: u32,
         found: &Span,
     ) -> Result<(), Memory> {
-        push_span(alloc, out, self.doc, self.conf, number, found)
+        push_span(out, self.doc, self.conf, number, found)
     }
 }
 

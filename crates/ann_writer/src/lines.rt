@@ -4,13 +4,13 @@ ghost use Rattle.char_documents.specs.Texts.{all_lie_in, reference_text};
 ghost use Rattle.std.specs.List.{flat_map};
 ghost use Rattle.mark_base.specs.declared.ann_id.Kind.TheVariants as letter;
 ghost use Rattle.ann_writer.specs.AnnOf.{attribute_line, class_line, event_line, normal_line, note_line, relation_line, span_line, value_words};
-ghost use Rattle.ann_writer.specs.Words.{id_word, line_of, line_with_text, words_behind};
+ghost use Rattle.ann_writer.specs.Words.{frags_word, id_word, line_of, line_with_text, words_behind};
 ghost use Rattle.ann_writer.specs.Writable.{HasRoles, LiesIn, NormalTexts, NoteTexts};
 
 use crate::arguments::argument_words;
 use crate::words::{
-    attribute_name, frags_word, id_word, pair_word, relation_name, relation_role, spelling,
-    type_name, value_name,
+    attribute_name, id_word, pair_word, push_frags, push_spelling, relation_name, relation_role,
+    spelling, type_name, value_name,
 };
 use char_documents::{Doc, RefFault};
 use conf_model::Conf;
@@ -77,9 +77,16 @@ fn reference(doc: &Doc, frags: &[Frag]) -> Result<Text, Memory>
     }
 }
 
+/// Appends the fragments of a span as a word behind a space.
+fn push_place(out: &mut String, frags: &[Frag]) -> Result<(), Memory>
+    ensures { OnOk result (string_bytes out.new ≡ string_bytes out.old ++ words_behind (frags_word frags.now ∷ [])) }
+{
+    out.push_str(" ")?;
+    push_frags(out, frags)
+}
+
 /// Appends the line of a span.
 pub(crate) fn push_span(
-    alloc: Global,
     out: &mut String,
     doc: &Doc,
     conf: &Conf,
@@ -89,17 +96,14 @@ pub(crate) fn push_span(
     requires { LiesIn doc.now span.now }
     ensures { OnOk result (string_bytes out.new ≡ string_bytes out.old ++ span_line conf.now doc.now number span.now) }
 {
-    let first = spelling(alloc, Kind::Text, number)?;
-    let text = reference(doc, span.frags.items())?;
-    let mut words = Vec::new(alloc);
-    words.push(frags_word(alloc, span.frags.items())?)?;
-    push_with_text(
-        out,
-        first.text(),
-        type_name(conf, span.kind),
-        words.as_slice(),
-        text.text(),
-    )
+    push_spelling(out, Kind::Text, number)?;
+    out.push_str("\t")?;
+    out.push_str(type_name(conf, span.kind))?;
+    push_place(out, span.frags.items())?;
+    out.push_str("\t")?;
+    out.push_str(reference(doc, span.frags.items())?.text())?;
+    out.push_str("\n")?;
+    Ok(())
 }
 
 /// Appends the line of an event.

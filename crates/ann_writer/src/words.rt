@@ -10,23 +10,33 @@ ghost use Rattle.ann_writer.specs.Words.{frag_word, frags_word, id_word, pair_wo
 
 use ann_reader::role_read;
 use conf_model::Conf;
+use itoa::Buffer;
 use mark_base::{AnnId, AttrId, Frag, Kind, Memory, RelId, Text, TypeId};
 use std::alloc::Global;
 
 /// Appends a number in decimal digits.
-fn push_number(alloc: Global, out: &mut String, number: u32) -> Result<(), Memory>
+fn push_number(out: &mut String, number: u32) -> Result<(), Memory>
     ensures { OnOk result (string_bytes out.new ≡ string_bytes out.old ++ decimal number) }
 {
-    out.push_str(number.to_string(alloc)?.as_str())?;
+    let mut digits = Buffer::new();
+    out.push_str(digits.format(number))?;
     Ok(())
+}
+
+/// Appends the ID of a letter and a number.
+pub(crate) fn push_spelling(out: &mut String, kind: Kind, number: u32) -> Result<(), Memory>
+    ensures { OnOk result (string_bytes out.new ≡ string_bytes out.old ++ spelling_of kind number) }
+{
+    out.push_str(kind.as_str())?;
+    push_number(out, number)
 }
 
 /// The ID of a letter and a number.
 pub(crate) fn spelling(alloc: Global, kind: Kind, number: u32) -> Result<Text, Memory>
     ensures { IfOk result (λ made. made ≡ spelling_of kind number) }
 {
-    let mut out = String::from_str(alloc, kind.as_str())?;
-    push_number(alloc, &mut out, number)?;
+    let mut out = String::new(alloc);
+    push_spelling(&mut out, kind, number)?;
     Ok(Text::from_string(out))
 }
 
@@ -48,35 +58,34 @@ pub(crate) fn pair_word(alloc: Global, name: &str, value: &str) -> Result<Text, 
 }
 
 /// Appends a fragment.
-fn push_frag(alloc: Global, out: &mut String, frag: &Frag) -> Result<(), Memory>
+fn push_frag(out: &mut String, frag: &Frag) -> Result<(), Memory>
     ensures { OnOk result (string_bytes out.new ≡ string_bytes out.old ++ frag_word frag.now) }
 {
-    push_number(alloc, out, frag.start)?;
+    push_number(out, frag.start)?;
     out.push_str(" ")?;
-    push_number(alloc, out, frag.end)
+    push_number(out, frag.end)
 }
 
 /// Appends fragments, each behind `;`.
-fn push_more_frags(alloc: Global, out: &mut String, frags: &[Frag]) -> Result<(), Memory>
+fn push_more_frags(out: &mut String, frags: &[Frag]) -> Result<(), Memory>
     ensures { OnOk result (string_bytes out.new ≡ string_bytes out.old ++ flat_map (λ next. codes ";" ++ frag_word next) frags.now) }
 {
     for frag in frags {
         out.push_str(";")?;
-        push_frag(alloc, out, frag)?;
+        push_frag(out, frag)?;
     }
     Ok(())
 }
 
-/// Fragments with `;` between each two.
-pub(crate) fn frags_word(alloc: Global, frags: &[Frag]) -> Result<Text, Memory>
-    ensures { IfOk result (λ made. made ≡ frags_word frags.now) }
+/// Appends fragments with `;` between each two.
+pub(crate) fn push_frags(out: &mut String, frags: &[Frag]) -> Result<(), Memory>
+    ensures { OnOk result (string_bytes out.new ≡ string_bytes out.old ++ frags_word frags.now) }
 {
-    let mut out = String::new(alloc);
     if let [frag, more @ ..] = frags {
-        push_frag(alloc, &mut out, frag)?;
-        push_more_frags(alloc, &mut out, more)?;
+        push_frag(out, frag)?;
+        push_more_frags(out, more)?;
     }
-    Ok(Text::from_string(out))
+    Ok(())
 }
 
 /// The name of a type by its place.
