@@ -1,6 +1,6 @@
 -- Decisions that are accepted stay accepted by a step that is not refused: what an item that is in names can be missing
 -- only about the item that the step changes, and there the step has looked.
-use Rattle.std.proofs.Common.{◌≡◌, ℕ, ◌⊎◌, ◌==◌, ◌≤◌, suc, ◌&&◌, ◌||◌, Bool, true, false, not, cond, List, [], ◌∷◌, map, filter, refl, sym, ◌∙◌, ap, inl, inr, Option, Some, None, arith}
+use Rattle.std.proofs.Common.{◌≡◌, ℕ, ◌⊎◌, ◌==◌, ◌≤◌, suc, ◌&&◌, Bool, true, false, not, cond, List, [], ◌∷◌, map, filter, refl, sym, ◌∙◌, ap, inl, inr, Option, Some, None, arith}
 use Rattle.std.proofs.lemmas.Bool.Decides.{eqb_tells}
 use Rattle.std.specs.Option.{is_some, option_map_or, option_or}
 use Rattle.std.specs.List.{find, list_all, list_any}
@@ -21,20 +21,13 @@ use Rattle.curator_decisions.specs.Decisions.{Decided, held_as, is_in, is_in_by,
 use Rattle.curator_decisions.specs.DecisionFaults.{changed_fault, decision_fault, item_fault, lacking, layer_fault, missing, names, needed, undecided_fault, verdict_fault}
 use Rattle.curator_decisions.specs.DecidedLaws.{AcceptedWithVerdict, AcceptedWithoutVerdict}
 use Rattle.curator_decisions.proofs.DecidedVerdicts.{same_item_rank, set_others, taken_others}
-use Rattle.curator_decisions.proofs.UndecidedClasses.{none_any}
-use Rattle.curator_decisions.proofs.UndecidedItems.{Differ, firsts_differ, in_firsts}
-use Rattle.curator_decisions.proofs.UndecidedLists.{two_of}
-use Rattle.curator_decisions.proofs.UndecidedPart.{find_none, none_found, none_some, not_both, unmapped}
+use Rattle.curator_decisions.proofs.ClassLemmas.{none_any}
+use Rattle.curator_decisions.proofs.CuratedItems.{Differ, firsts_differ, in_firsts}
+use Rattle.curator_decisions.proofs.CuratedNames.{Closed, named_none}
+use Rattle.curator_decisions.proofs.ListLemmas.{two_of}
+use Rattle.curator_decisions.proofs.CuratedParts.{find_none, none_found, none_some, not_both, unmapped}
 
 -- ---- tests and options
-
-any_none : {X : Type 0} (p : X → Bool) (xs : List X) → list_any p xs ≡ false → (x : X) → IsIn x xs → p x ≡ false
-any_none p [] e x k = absurd k
-any_none {X} p (y ∷ ys) e x k =
-    elim (p y) as (λ b. p y ≡ b → (b || list_any p ys) ≡ false → p x ≡ false) [
-      | true ↦ λ _ h. not_both true refl h
-      | false ↦ λ no h. elim k [ inl same ↦ ap p same ∙ no | inr m ↦ any_none p ys h x m ]
-    ] refl e
 
 swap : (a b : Bool) → (a && b) ≡ false → (b && a) ≡ false
 swap true true e = e
@@ -72,17 +65,6 @@ or_none (Some x) b e = none_some (sym e)
 or_none None b e = (refl, e)
 
 -- ---- what is missing after a change at one item
-
--- nothing that is out is named by what is in
-abbrev Closed : {X : Type 0} → List X → (X → X → Bool) → (X → Bool) → Type 0
-Closed all named inner = find (λ other. not (inner other) && list_any (λ one. inner one && named one other) all) all ≡ None
-
-named_none : {X : Type 0} (all : List X) (named : X → X → Bool) (inner : X → Bool) → Closed all named inner → (one other : X) → IsIn one all → IsIn other all → inner other ≡ false
-    → (inner one && named one other) ≡ false
-named_none all named inner closed one other i j out =
-    let at : (not (inner other) && list_any (λ z. inner z && named z other) all) ≡ false = none_found (λ o. not (inner o) && list_any (λ z. inner z && named z o) all) all closed other j in
-    let any : list_any (λ z. inner z && named z other) all ≡ false = sym (ap (λ b. not b && list_any (λ z. inner z && named z other) all) out) ∙ at in
-    any_none (λ z. inner z && named z other) all any one i
 
 module _ {X : Type 0} (all : List X) (named : X → X → Bool) (old new : X → Bool) (held : X) (same : (x : X) → IsIn x all → (x ≡ held) ⊎ (new x ≡ old x)) (closed : Closed all named old)
     (lacks : cond (new held) (find (λ other. named held other && not (new other)) all) (find (λ other. named other held && new other) all) ≡ None) where
@@ -218,11 +200,15 @@ module _ (conf : Configuration) (characters : ℕ) (layers : List Reading) (deci
       | inr p ↦ inr (ap (λ v. is_in_by v (in_each layers x.content)) (others (name_of x) p.1))
     ]
 
+    -- where the step lacks nothing, nothing is missing behind it
+    pub nothing_lacks : lacking layers changed held ≡ None → missing layers changed ≡ None
+    nothing_lacks lacks = closed_still (leaders layers) (names layers) (is_in layers decided) (is_in layers changed) held same_in none_missing lacks
+
     stays : list_all (λ one. is_some (held_as layers one.0)) changed ≡ true → changed_fault conf characters layers changed held ≡ None → decision_fault conf characters layers changed ≡ None
     stays items fault =
         let both : (needed (lacking layers changed held) ≡ None) × (layer_fault conf characters layers changed ≡ None) = or_none (needed (lacking layers changed held)) (layer_fault conf characters layers changed) fault in
         let lacks : lacking layers changed held ≡ None = unmapped (λ one. NeedsItem (name_of one)) (lacking layers changed held) both.0 in
-        let nothing : missing layers changed ≡ None = closed_still (leaders layers) (names layers) (is_in layers decided) (is_in layers changed) held same_in none_missing lacks in
+        let nothing : missing layers changed ≡ None = nothing_lacks lacks in
         λ i. option_or (fault_where (items i)) (option_or (needed (nothing i)) (both.1 i))
 
 pub with_stays : AcceptedWithVerdict

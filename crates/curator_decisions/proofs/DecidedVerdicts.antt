@@ -20,7 +20,7 @@ use Rattle.curator_decisions.specs.declared.verdict.Verdict.{Verdict}
 use Rattle.curator_decisions.specs.Decisions.{Ascend, Decided, is_in, is_in_by, item_rank, verdict_on, with_verdict, without_verdict}
 use Rattle.curator_decisions.specs.Curated.{classes_taken, layer_of, numbered_behind, taken}
 use Rattle.curator_decisions.specs.DecidedLaws.{DecisionsAreAMap, OthersStay, OthersStaySet, SameVerdicts, SameVerdictsSameLayer, VerdictIsSet, VerdictIsTakenBack}
-use Rattle.curator_decisions.proofs.UndecidedPart.{none_some}
+use Rattle.curator_decisions.proofs.CuratedParts.{none_some}
 
 -- ---- an item is known by its rank
 

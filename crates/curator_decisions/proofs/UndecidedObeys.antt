@@ -1,8 +1,9 @@
--- The layer that no decisions make is a part of the first layer under new IDs, and so it obeys what that obeys.
-use Rattle.std.proofs.Common.{◌≡◌, ℕ, zero, suc, ◌<◌, ◌≤◌, Bool, true, false, cond, List, [], ◌∷◌, map, length, slice_get, filter, refl, sym, ◌∙◌, ap, subst, inl, inr, Option, Some, None, IsSome, is_some, All, arith}
+-- With no decisions each item is an annotation of the first layer, so that the curated layer keeps the other three rules too.
+use Rattle.std.proofs.Common.{◌≡◌, ℕ, zero, suc, ◌+◌, ◌*◌, ◌<◌, ◌≤◌, ◌==◌, ◌&&◌, nat_lt, eq-eqb, ne_eqb, eqb-true, true, false, List, [], ◌∷◌, ◌++◌, map, length, slice_get, refl, sym, ◌∙◌, ap, subst, inl, inr, Option, Some, None, arith}
+use Rattle.std.proofs.lemmas.Bool.{lt-ltb}
 use Rattle.std.proofs.lemmas.Option.{same_Some}
-use Rattle.std.specs.Option.{option_map, option_and_then, unwrap_or}
-use Rattle.std.specs.List.{AllByRecursion, cons_option, filter_map, fold}
+use Rattle.std.specs.Option.{option_map, option_map_or, option_and_then}
+use Rattle.std.specs.List.{count_by}
 use Rattle.std.specs.Ordering.{nat_cmp}
 use Rattle.std.specs.Cmp.{ranked}
 use Rattle.std.specs.declared.cmp.Ordering.TheVariants.{Less, Equal, Greater}
@@ -10,231 +11,347 @@ use Rattle.std.specs.FinMap as finite
 use Rattle.mark_base.specs.declared.ann_id.AnnId.{AnnId}
 use Rattle.mark_base.specs.declared.ann_id.Kind.{Kind}
 use Rattle.mark_base.specs.declared.ann_id.Kind.TheVariants as letter
+use Rattle.mark_base.specs.ReadIds.{id_at}
 use Rattle.conf_model.specs.Configurations.{Configuration}
+use Rattle.layer_model.specs.declared.attribute.Attribute.{Attribute}
 use Rattle.layer_model.specs.declared.class.Class.{Class}
+use Rattle.layer_model.specs.declared.mark.Mark.{Mark}
 use Rattle.layer_model.specs.declared.mark.Mark.TheVariants as marked
-use Rattle.layer_model.specs.declared.span.Span.{Span}
+use Rattle.layer_model.specs.declared.rule.Rule.TheVariants.{AttributeThere, LayerFull, OverlapRefused}
+use Rattle.layer_model.specs.declared.flaw.FlawPlace.TheVariants as at
 use Rattle.layer_model.specs.Annotations.{Annotations}
-use Rattle.layer_model.specs.Classes.{Precedes, joined, rank}
-use Rattle.layer_model.specs.Coherent.{AllStand, IsCoherent, is_span_letter}
-use Rattle.layer_model.specs.Layers.{IsLayer, has, has_number, mark_of}
-use Rattle.layer_rules.specs.LayerRules.{counted_with}
-use Rattle.layer_rules.specs.WellFormed.{IsWellFormed, Obeys}
+use Rattle.layer_model.specs.Classes.{letter_place, rank}
+use Rattle.layer_model.specs.Coherent.{LettersFitIn, is_attributed_letter, named}
+use Rattle.layer_model.specs.Layers.{IsLayer, attribute_of, mark_at, mark_of}
+use Rattle.layer_model.specs.LayerIds.{ids_of}
+use Rattle.layer_rules.specs.MarkRules.{where_so}
+use Rattle.layer_rules.specs.LayerRules.{classes_full, counted_letter, counted_with, is_id, layer_full, lower_pair, overlap_refused, refused_overlap, same_attributes}
+use Rattle.layer_rules.specs.WellFormed.{Never, Obeys, at_attribute_there, at_layer_full, at_overlap_refused}
 use Rattle.content_keys.specs.Nodes.{IsIn}
-use Rattle.content_keys.specs.LayerContents.{class_content, content_of, node_of_mark}
+use Rattle.content_keys.specs.LayerContents.{node_of}
+use Rattle.content_keys.specs.LayerContents as contents_of
 use Rattle.content_keys.proofs.IdLemmas.{same_rank}
-use Rattle.unanimous_merge.specs.Readings.{reading_of, readings}
-use Rattle.unanimous_merge.specs.Unanimous.{class_in_each}
-use Rattle.unanimous_merge.proofs.ListLemmas.{all_head, all_tail}
-use Rattle.curator_decisions.specs.Curated.{Numbered, all_new, class_taken, classes_taken, curated, layer_of, new_id, numbered_behind, taken}
+use Rattle.content_keys.proofs.OneLemmas.{one_of_content}
+use Rattle.unanimous_merge.specs.Items.{Held, firsts}
+use Rattle.unanimous_merge.specs.Readings.{Reading, reading_of, readings}
+use Rattle.unanimous_merge.specs.Unanimous.{in_each}
+use Rattle.unanimous_merge.proofs.ListLemmas.{all_cons, all_none, length_map}
+use Rattle.curator_decisions.specs.Curated.{Numbered, count_of_letter, curated, curated_letter, letter_of_item, rename_in, renamed}
+use Rattle.curator_decisions.specs.Decisions.{items_in}
+use Rattle.curator_decisions.specs.DecisionFaults.{missing}
 use Rattle.curator_decisions.specs.Undecided.{UndecidedLayersObey}
-use Rattle.curator_decisions.proofs.UndecidedClasses.{IsOrdered, Lower, ascends_pairs, class_in, classes_pairs, joined_are, precedes_still, renamed_up}
-use Rattle.curator_decisions.proofs.UndecidedCounts.{few_counted}
-use Rattle.curator_decisions.proofs.UndecidedItems.{items_are, layers}
-use Rattle.curator_decisions.proofs.UndecidedLists.{Pairs, in_filter, in_given, pairs_filter, pairs_given}
-use Rattle.curator_decisions.proofs.UndecidedPart.{ClassOrigin, IsPart, none_some, renamed_class}
-use Rattle.curator_decisions.proofs.UndecidedRenames.{HasNode, In, IsWhole, found_new, in_closed, in_letter, in_node, is_item, new, ns}
-use Rattle.curator_decisions.proofs.UndecidedRoom.{part_obeys}
-use Rattle.curator_decisions.proofs.UndecidedTaken.{few_here, fits, from, kept, layer, rising}
+use Rattle.curator_decisions.proofs.BreaksThree.{Coheres, all_in}
+use Rattle.curator_decisions.proofs.CuratedAlike.{letter_fits, letter_of_mark}
+use Rattle.curator_decisions.proofs.CuratedClasses.{Within, class_from, classes, first_reading, made, up}
+use Rattle.curator_decisions.proofs.CuratedCounts.{at_letter, few_counted, few_ids, few_keys, length_append}
+use Rattle.curator_decisions.proofs.CuratedItems.{count_firsts}
+use Rattle.curator_decisions.proofs.CuratedMarks.{Came, got, no_legacy, none_in, stands_fit}
+use Rattle.curator_decisions.proofs.CuratedNames.{HasNode, IsWhole, Known, items, known_named, names_of, new, new_item, node_is, same_content, some_of}
+use Rattle.curator_decisions.proofs.CuratedOwn.{count_map}
+use Rattle.curator_decisions.proofs.CuratedPairs.{both_true, pairs_never}
+use Rattle.curator_decisions.proofs.CuratedParts.{ClassOrigin, Row, in_ids, none_found, none_some, not_both, so_none, unmapped}
+use Rattle.curator_decisions.proofs.CuratedRules.{keeps, suffice}
+use Rattle.curator_decisions.proofs.CuratedTaken.{IsEntry, came, entries, entry_at, of_entry}
+use Rattle.curator_decisions.proofs.UndecidedItems.{IsChosen, are_chosen, chosen, items_are, layers, own}
+use Rattle.curator_decisions.proofs.ListLemmas.{count_filter}
+use Rattle.curator_decisions.proofs.UndecidedMissing.{nothing_missing}
+use Rattle.curator_decisions.proofs.NumberedLemmas.{letter_kept, number_within, numbered_is}
 
--- ---- members of classes are spans
+-- ---- lists and classes by their lengths
 
-span_there : (o : Option Span) → is_some o ≡ true → IsSome (option_and_then node_of_mark (option_map marked.Span o))
-span_there None h = absurd (let f : false ≡ true = h in cc)
-span_there (Some span) h = refl
+past : {X : Type 0} (xs : List X) (i : ℕ) → length xs ≤ i → slice_get xs i ≡ None
+past [] i h = refl
+past (x ∷ xs) zero h = absurd (omega arith)
+past (x ∷ xs) (suc i) h = past xs i (omega arith)
 
-span_node : (l : Annotations) (kind : Kind) (n : ℕ) → is_span_letter kind ≡ true → has_number l kind n ≡ true → IsSome (option_and_then node_of_mark (mark_of l kind n))
-span_node l letter.Text n fits there = span_there (finite.get l.spans n) there
-span_node l kind n fits there = absurd (let f : false ≡ true = fits in cc)
+within : {X : Type 0} (xs : List X) (i : ℕ) (x : X) → slice_get xs i ≡ Some x → i < length xs
+within [] i x e = none_some e
+within (y ∷ ys) zero x e = omega arith
+within (y ∷ ys) (suc i) x e = let h : i < length ys = within ys i x e in omega arith
 
-span_known : (kind : Kind) → is_span_letter kind ≡ true → kind ≡ letter.Normal → ⊥
-span_known kind h e = let f : false ≡ true = sym (ap is_span_letter e) ∙ h in cc
+equal : (n : ℕ) → (n == n) ≡ true
+equal n = eq-eqb n n refl
 
-each_of : {X : Type 0} (P : X → Type 0) (xs : List X) → AllByRecursion P xs → (x : X) → IsIn x xs → P x
-each_of P [] h x k = absurd k
-each_of P (y ∷ ys) h x k = elim k [ inl e ↦ subst P (sym e) h.0 | inr m ↦ each_of P ys h.1 x m ]
-
--- ---- a list that is filtered and mapped, by its places
-
-record IsFrom {X Y : Type 0} (f : X → Option Y) (xs : List X) (index : ℕ) (y : Y) : Type 0 where
-  place : ℕ
-  was : X
-  there : slice_get xs place ≡ Some was
-  among : IsIn was xs
-  low : index ≤ place
-  given : f was ≡ Some y
-
-later : {X Y : Type 0} (f : X → Option Y) (x : X) (xs : List X) (index more : ℕ) (y : Y) → more ≤ suc index → IsFrom f xs index y → IsFrom f (x ∷ xs) more y
-later f x xs index more y h r = record { place = suc r.place; was = r.was; there = r.there; among = inr r.among; low = (let l : index ≤ r.place = r.low in omega arith); given = r.given }
-
-from_place : {X Y : Type 0} (f : X → Option Y) (p : X → Bool) (xs : List X) (index : ℕ) (y : Y) → slice_get (filter_map f (filter p xs)) index ≡ Some y → IsFrom f xs index y
-from_place f p [] index y e = none_some e
-from_place {X} {Y} f p (x ∷ xs) index y e =
-    elim (p x) as (λ b. slice_get (filter_map f (cond b (x ∷ filter p xs) (filter p xs))) index ≡ Some y → IsFrom f (x ∷ xs) index y) [
-      | true ↦ λ g. given (from_place f p xs) (f x) refl index g
-      | false ↦ λ g. later f x xs index index y (omega arith) (from_place f p xs index y g)
-    ] e
+few_classes : (first : Annotations) → Never (at_layer_full first) → length first.classes ≤ 10000
+few_classes first nowhere = split (slice_get first.classes 10000) refl
   where
-    given : ((i : ℕ) (z : Y) → slice_get (filter_map f (filter p xs)) i ≡ Some z → IsFrom f xs i z) → (o : Option Y) → f x ≡ o → (i : ℕ) → slice_get (cons_option o (filter_map f (filter p xs))) i ≡ Some y → IsFrom f (x ∷ xs) i y
-    given rest None h i g = later f x xs i i y (omega arith) (rest i y g)
-    given rest (Some v) h zero g = record { place = 0; was = x; there = refl; among = inl refl; low = omega arith; given = h ∙ g }
-    given rest (Some v) h (suc i) g = later f x xs i (suc i) y (omega arith) (rest i y g)
+    split : (o : Option Class) → slice_get first.classes 10000 ≡ o → length first.classes ≤ 10000
+    split None e = short first.classes 10000 e
+      where
+        short : (cs : List Class) (i : ℕ) → slice_get cs i ≡ None → length cs ≤ i
+        short [] i h = omega arith
+        short (c ∷ cs) zero h = none_some (sym h)
+        short (c ∷ cs) (suc i) h = let r : length cs ≤ i = short cs i h in omega arith
+    split (Some class) e = absurd (so_none (10000 == 10000) (LayerFull letter.Text) (equal 10000) (sym (ap (option_and_then (classes_full 10000)) e) ∙ nowhere (at.Class 10000)))
+
+-- ---- attributes and spans
+
+record AreAttributes (new : AnnId → AnnId) (a b : Mark) : Type 0 where
+  one : Attribute
+  two : Attribute
+  first : a ≡ marked.Attribute one
+  second : b ≡ marked.Attribute two
+  kind : one.kind.n ≡ two.kind.n
+  target : rank (new one.target) ≡ rank (new two.target)
+
+attributes_are : (new : AnnId → AnnId) (a b : Mark) → same_attributes (renamed new a) (renamed new b) ≡ true → AreAttributes new a b
+attributes_are new (marked.Attribute a) (marked.Attribute b) h =
+    let two : ((a.kind.n == b.kind.n) ≡ true) × ((rank (new a.target) == rank (new b.target)) ≡ true) = both_true (a.kind.n == b.kind.n) (rank (new a.target) == rank (new b.target)) h in
+    record { one = a; two = b; first = refl; second = refl; kind = eqb-true _ _ two.0; target = eqb-true _ _ two.1 }
+attributes_are new (marked.Attribute a) b h = absurd (let e : false ≡ true = h in cc)
+attributes_are new a b h = absurd (let e : false ≡ true = h in cc)
+
+record AreSpans (conf : Configuration) (a b : Mark) : Type 0 where
+  first : letter_of_mark a ≡ letter.Text
+  second : letter_of_mark b ≡ letter.Text
+  refused : refused_overlap conf a b ≡ true
+
+spans_are : (conf : Configuration) (new : AnnId → AnnId) (a b : Mark) → refused_overlap conf (renamed new a) (renamed new b) ≡ true → AreSpans conf a b
+spans_are conf new (marked.Span a) (marked.Span b) h = record { first = refl; second = refl; refused = h }
+spans_are conf new (marked.Span a) b h = absurd (let e : false ≡ true = h in cc)
+spans_are conf new a b h = absurd (let e : false ≡ true = h in cc)
+
+text_only : (kind : Kind) → curated_letter kind ≡ letter.Text → kind ≡ letter.Text
+text_only letter.Text e = refl
+text_only letter.Event e = cc
+text_only letter.Relation e = cc
+text_only letter.Attribute e = cc
+text_only letter.Legacy e = cc
+text_only letter.Normal e = cc
+text_only letter.Note e = cc
+
+not_attribute : {V A : Type 0} (wrap : V → Mark) (attribute : Attribute) → ((v : V) → wrap v ≡ marked.Attribute attribute → ⊥) → (o : Option V) → option_map wrap o ≡ Some (marked.Attribute attribute) → A
+not_attribute wrap attribute differs None e = none_some e
+not_attribute wrap attribute differs (Some v) e = absurd (differs v (same_Some _ _ e))
+
+of_attribute : (o : Option Attribute) (attribute : Attribute) → option_map marked.Attribute o ≡ Some (marked.Attribute attribute) → o ≡ Some attribute
+of_attribute None attribute e = none_some e
+of_attribute (Some other) attribute e = cc
+
+attribute_there_at : (l : Annotations) (kind : Kind) (n : ℕ) (attribute : Attribute) → mark_of l kind n ≡ Some (marked.Attribute attribute) → attribute_of l kind n ≡ Some attribute
+attribute_there_at l letter.Text n a e = not_attribute marked.Span a (λ v h. cc) (finite.get l.spans n) e
+attribute_there_at l letter.Event n a e = not_attribute marked.Event a (λ v h. cc) (finite.get l.events n) e
+attribute_there_at l letter.Relation n a e = not_attribute marked.Relation a (λ v h. cc) (finite.get l.relations n) e
+attribute_there_at l letter.Attribute n a e = of_attribute (finite.get l.attributes n) a e
+attribute_there_at l letter.Legacy n a e = of_attribute (finite.get l.legacy n) a e
+attribute_there_at l letter.Normal n a e = not_attribute marked.Normal a (λ v h. cc) (finite.get l.normals n) e
+attribute_there_at l letter.Note n a e = not_attribute marked.Note a (λ v h. cc) (finite.get l.notes n) e
+
+attributed_known : (k : Kind) → is_attributed_letter k ≡ true → k ≡ letter.Normal → ⊥
+attributed_known k h e = let f : false ≡ true = sym (ap is_attributed_letter e) ∙ h in cc
+
+-- there are no more items than annotations of the first layer
+few_chosen : (first : Annotations) (others : List Reading) → ((kind : Kind) → length (counted_with first kind) ≤ 10000) → (kind : Kind) → count_of_letter kind (items_in (layers first others) []) ≤ 10000
+few_chosen first others few kind =
+    let a : count_of_letter kind (chosen first others) ≤ count_of_letter kind (firsts (map (own first others) (contents_of.ids_of first))) =
+    count_filter (λ held. letter_place (letter_of_item held) == letter_place kind) (λ h. in_each (layers first others) h.content) (firsts (map (own first others) (contents_of.ids_of first))) in
+    let b : count_of_letter kind (firsts (map (own first others) (contents_of.ids_of first))) ≤ count_of_letter kind (map (own first others) (contents_of.ids_of first)) =
+    count_firsts (λ held. letter_place (letter_of_item held) == letter_place kind) (map (own first others) (contents_of.ids_of first)) in
+    let e : count_of_letter kind (map (own first others) (contents_of.ids_of first)) ≡ count_by (at_letter (letter_place kind)) (contents_of.ids_of first) =
+    count_map (own first others) (λ held. letter_place (letter_of_item held) == letter_place kind) (contents_of.ids_of first) in
+    let same : count_of_letter kind (items_in (layers first others) []) ≡ count_of_letter kind (chosen first others) = ap (count_of_letter kind) (items_are first others) in
+    omega (arith, a, b, e, same, few_ids first few kind)
 
 -- ---- the layer of no decisions
 
-module _ (first : Annotations) (rows : List (List ℕ × Annotations)) (is : IsLayer first) (whole : IsCoherent first) (all : (row : List ℕ × Annotations) → IsIn row rows → IsWhole row)
-    (few : (kind : Kind) → length (counted_with first kind) ≤ 10000) where
-  abbrev renames : AnnId → AnnId
-  renames = new first rows is whole all
+module _ (first : Row) (rest : List Row) (all : (row : Row) → IsIn row (first ∷ rest) → IsWhole row) (conf : Configuration) (characters : ℕ) (obey : (row : Row) → IsIn row (first ∷ rest) → Obeys conf characters row.1) where
+  abbrev rows : List Row
+  rows = first ∷ rest
 
-  abbrev items : List Numbered
-  items = ns first rows is whole all
+  whole : IsWhole first
+  whole = all first (inl refl)
 
-  abbrev Within : AnnId → Type 0
-  Within = In first rows is whole all
+  closed : missing (readings rows) [] ≡ None
+  closed = nothing_missing first.1 rest whole.0 whole.1 (λ row k. all row (inr k))
 
-  abbrev found_id : AnnId → Option AnnId
-  found_id id = new_id items (content_of first id)
+  few_ten : (kind : Kind) → count_of_letter kind (items_in (readings rows) []) ≤ 10000
+  few_ten = few_chosen first.1 (readings rest) (few_counted first.1 whole.0 (obey first (inl refl)).well_formed.room)
 
-  -- a span whose content has an item that is in is that item
-  member_in : (id x : AnnId) → is_span_letter id.kind ≡ true → has first id ≡ true → found_id id ≡ Some x → Within id
-  member_in id x span there e =
-      let r : (one : Numbered) × (IsIn one items × ((one.held.content ≡ content_of first id) × (one.id ≡ x))) = found_new items (content_of first id) x e in
-      is_item first rows is whole all id (span_node first id.kind id.number span there) (span_known id.kind span) r.0 r.1.0 r.1.1.0
+  few : (kind : Kind) → count_of_letter kind (items_in (readings rows) []) ≤ 999999999
+  few kind = let f : count_of_letter kind (items_in (readings rows) []) ≤ 10000 = few_ten kind in omega arith
 
-  record AreNew (ids new_ids : List AnnId) : Type 0 where
-    within : (id : AnnId) → IsIn id ids → Within id
-    same : new_ids ≡ map renames ids
+  abbrev ones : List Numbered
+  ones = items rows all [] closed few
 
-  members_new : (ids new_ids : List AnnId) → AllStand first ids → AllByRecursion (λ member. is_span_letter member.kind ≡ true) ids → all_new found_id ids ≡ Some new_ids → AreNew ids new_ids
-  members_new [] new_ids stand spans e = record { within = λ id k. absurd k; same = sym (same_Some _ _ e) }
-  members_new (id ∷ ids) new_ids stand spans e = by (members_new ids) (found_id id) refl e
-    where
-      rest_is : ((ys : List AnnId) → AllStand first ids → AllByRecursion (λ member. is_span_letter member.kind ≡ true) ids → all_new found_id ids ≡ Some ys → AreNew ids ys) → (x : AnnId) → found_id id ≡ Some x
-          → (o : Option (List AnnId)) → all_new found_id ids ≡ o → option_map (λ others. x ∷ others) o ≡ Some new_ids → AreNew (id ∷ ids) new_ids
-      rest_is rest x h None g e = none_some e
-      rest_is rest x h (Some ys) g e =
-          let r : AreNew ids ys = rest ys stand.1 spans.1 g in
-          let here : renames id ≡ x = ap (λ o. unwrap_or o id) h in
-          record {
-            within = λ y k. elim k [ inl same ↦ subst Within (sym same) (member_in id x spans.0 stand.0 h) | inr m ↦ r.within y m ];
-            same = sym (same_Some _ _ e) ∙ (λ i. sym here i ∷ r.same i);
-          }
+  abbrev called : Row → AnnId → AnnId
+  called = new rows all [] closed few
 
-      by : ((ys : List AnnId) → AllStand first ids → AllByRecursion (λ member. is_span_letter member.kind ≡ true) ids → all_new found_id ids ≡ Some ys → AreNew ids ys) → (o : Option AnnId) → found_id id ≡ o
-          → option_and_then (λ x. option_map (λ others. x ∷ others) (all_new found_id ids)) o ≡ Some new_ids → AreNew (id ∷ ids) new_ids
-      by rest None h e = none_some e
-      by rest (Some x) h e = rest_is rest x h (all_new found_id ids) refl e
+  abbrev In : Row → AnnId → Type 0
+  In = Known rows all [] closed few
 
-  abbrev given : Class → Option Class
-  given = class_taken (reading_of first) items
+  abbrev cs : List Class
+  cs = classes first rest all [] closed few
 
-  record IsNew (class new_class : Class) : Type 0 where
-    within : (id : AnnId) → IsIn id class.members → Within id
-    same : new_class ≡ renamed_class renames class
+  abbrev layer : Annotations
+  layer = made first rest all [] closed few
 
-  class_new : (class new_class : Class) → IsIn class first.classes → given class ≡ Some new_class → IsNew class new_class
-  class_new class new_class k e = by (all_new found_id class.members) refl e
-    where
-      by : (o : Option (List AnnId)) → all_new found_id class.members ≡ o → option_map (λ members. let c : Class = record { kind = class.kind; members = members } in c) o ≡ Some new_class → IsNew class new_class
-      by None g h = none_some h
-      by (Some ids) g h =
-          let r : AreNew class.members ids =
-          members_new class.members ids (each_of (λ (c : Class). AllStand first c.members) first.classes whole.stand.classes class k) (each_of (λ (c : Class). AllByRecursion (λ member. is_span_letter member.kind ≡ true) c.members) first.classes whole.letters.classes class k) g in
-          record { within = r.within; same = sym (same_Some _ _ h) ∙ (λ i. record { kind = class.kind; members = r.same i }) }
+  -- ---- each annotation is one of the first layer
 
-  abbrev shared : Class → Bool
-  shared class = class_in_each (layers first (readings rows)) (class_content (content_of first) class)
+  chosen_one : (one : Numbered) → IsIn one ones → IsChosen first.1 (readings rest) one.held
+  chosen_one one k =
+      let P : List Held → Type 0 = IsIn one.held in
+      are_chosen first.1 (readings rest) one.held (subst P (items_are first.1 (readings rest)) (numbered_is [] (items_in (readings rows) []) one k).among)
 
-  abbrev new_classes : List Class
-  new_classes = filter_map given (filter shared first.classes)
+  record IsOwn (id : AnnId) (mark : Mark) : Type 0 where
+    one : Numbered
+    among : IsIn one ones
+    was : Mark
+    there : mark_at first.1 one.held.id ≡ Some was
+    known : In first one.held.id
+    id_is : id ≡ called first one.held.id
+    mark_is : mark ≡ renamed (called first) was
+    names : (y : AnnId) → IsIn y (named was) → In first y
 
-  up : (a b : AnnId) → Within a → Within b → rank a < rank b → rank (renames a) < rank (renames b)
-  up = rising first rows is whole all few []
+  entry_own : (id : AnnId) (mark : Mark) (i : IsEntry rows all [] closed few cs (id, mark)) → IsOwn id mark
+  entry_own id mark i =
+      let c : IsChosen first.1 (readings rest) i.one.held = chosen_one i.one i.among in
+      let reading : reading_of first.1 ≡ reading_of i.held.row.1 = first_reading first rest all [] closed few i.one.held i.held c.holder in
+      let there : mark_at first.1 i.one.held.id ≡ Some i.node.mark = ap (λ (r : Reading). r.mark i.one.held.id) reading ∙ i.node.there in
+      let node : HasNode first.1 i.one.held.id = record { mark = i.node.mark; node = i.node.node; there = there; made = i.node.made } in
+      record {
+        one = i.one;
+        among = i.among;
+        was = i.node.mark;
+        there = there;
+        known = record { among = inl refl; node = node; one = i.one; listed = i.among; content = c.content };
+        id_is = ap (λ (w : AnnId × Mark). w.0) i.same ∙ sym (new_item rows all [] closed few i.one i.among record { row = first; among = inl refl; place = 0; holder = c.holder; at = refl; listed = c.listed; content = c.content });
+        mark_is = ap (λ (w : AnnId × Mark). w.1) i.same ∙ ap (λ (r : Reading). renamed (rename_in r ones) i.node.mark) (sym reading);
+        names = λ y n. known_named rows all [] closed few i.one i.among record { row = first; among = inl refl; place = 0; holder = c.holder; at = refl; listed = c.listed; content = c.content } node y (names_of i.node.mark i.node.node i.node.made y n);
+      }
 
-  one : (a b : AnnId) → Within a → Within b → rank (renames a) ≡ rank (renames b) → a ≡ b
-  one a b i j e =
-      elim (nat_cmp (rank a) (rank b)) as (λ r. r ≡ nat_cmp (rank a) (rank b) → a ≡ b) [
-        | Less ↦ λ w. absurd (let h : rank (renames a) < rank (renames b) = up a b i j (ranked (rank a) (rank b) Less w) in omega arith)
-        | Equal ↦ λ w. same_rank a b (ranked (rank a) (rank b) Equal w)
-        | Greater ↦ λ w. absurd (let h : rank (renames b) < rank (renames a) = up b a j i (ranked (rank a) (rank b) Greater w) in omega arith)
+  own_at : (id : AnnId) (mark : Mark) → mark_at layer id ≡ Some mark → IsOwn id mark
+  own_at id mark e = entry_own id mark (entry_at rows all [] closed few cs id mark e)
+
+  -- ---- attributes
+
+  -- what attributes are set on is known by its content
+  one_target : (y z : AnnId) → In first y → In first z → is_attributed_letter y.kind ≡ true → rank (called first y) ≡ rank (called first z) → y ≡ z
+  one_target y z k l known e =
+      one_of_content first.1 whole.1 y z (some_of (node_of first.1 y) k.node.node (node_is first.1 y k.node.mark k.node.node k.node.there k.node.made))
+      (some_of (node_of first.1 z) l.node.node (node_is first.1 z l.node.mark l.node.node l.node.there l.node.made)) (attributed_known y.kind known) (same_content rows all [] closed few first first y z k l e)
+
+  attributes_one : (id other : AnnId) (mark m : Mark) (i : IsOwn id mark) (j : IsOwn other m) → AreAttributes (called first) i.was j.was → rank other ≡ rank id
+  attributes_one id other mark m i j a =
+      let P : Mark → Type 0 = λ w. (y : AnnId) → IsIn y (named w) → In first y in
+      let Q : Mark → Type 0 = LettersFitIn in
+      let x : In first a.one.target = subst P a.first i.names a.one.target (inl refl) in
+      let y : In first a.two.target = subst P a.second j.names a.two.target (inl refl) in
+      let fit : is_attributed_letter a.one.target.kind ≡ true = subst Q a.first (whole.1.letters.marks i.one.held.id.kind i.one.held.id.number i.was i.there) in
+      let target : a.one.target ≡ a.two.target = one_target a.one.target a.two.target x y fit a.target in
+      let ours : attribute_of first.1 i.one.held.id.kind i.one.held.id.number ≡ Some a.one = attribute_there_at first.1 i.one.held.id.kind i.one.held.id.number a.one (i.there ∙ ap Some a.first) in
+      let theirs : attribute_of first.1 j.one.held.id.kind j.one.held.id.number ≡ Some a.two = attribute_there_at first.1 j.one.held.id.kind j.one.held.id.number a.two (j.there ∙ ap Some a.second) in
+      let same : (i.one.held.id.kind ≡ j.one.held.id.kind) × (i.one.held.id.number ≡ j.one.held.id.number) =
+      whole.1.attributes i.one.held.id.kind j.one.held.id.kind i.one.held.id.number j.one.held.id.number a.one a.two ours theirs record { kind = a.kind; target = ap rank target } in
+      let ids : i.one.held.id ≡ j.one.held.id = same_rank i.one.held.id j.one.held.id (λ k. letter_place (same.0 k) * 1000000000 + same.1 k) in
+      ap rank (j.id_is ∙ ap (called first) (sym ids) ∙ sym i.id_is)
+
+  attributes : Never (at_attribute_there layer)
+  attributes = pairs_never layer same_attributes AttributeThere (λ id other mark m e f so low.
+      let i : IsOwn id mark = own_at id mark e in
+      let j : IsOwn other m = own_at other m f in
+      let a : AreAttributes (called first) i.was j.was = attributes_are (called first) i.was j.was (sym (λ k. same_attributes (i.mark_is k) (j.mark_is k)) ∙ so) in
+      let same : rank other ≡ rank id = attributes_one id other mark m i j a in
+      omega arith)
+
+  -- ---- overlaps
+
+  text_of : (id : AnnId) (mark : Mark) (i : IsOwn id mark) → letter_of_mark i.was ≡ letter.Text → Within first rest all [] closed few i.one.held.id
+  text_of id mark i text =
+      record { known = i.known; text = text_only i.one.held.id.kind (letter_fits i.one.held.id.kind i.was (stands_fit first.1 i.one.held.id.kind i.one.held.id.number i.was i.there) ∙ text) }
+
+  lower_old : (a b : AnnId) → Within first rest all [] closed few a → Within first rest all [] closed few b → rank (called first b) < rank (called first a) → rank b < rank a
+  lower_old a b i j low =
+      elim (nat_cmp (rank b) (rank a)) as (λ r. r ≡ nat_cmp (rank b) (rank a) → rank b < rank a) [
+        | Less ↦ λ w. ranked (rank b) (rank a) Less w
+        | Equal ↦ λ w. absurd (let same : rank (called first b) ≡ rank (called first a) = ap (λ x. rank (called first x)) (same_rank b a (ranked (rank b) (rank a) Equal w)) in omega arith)
+        | Greater ↦ λ w. absurd (let h : rank (called first a) < rank (called first b) = up first rest all [] closed few a b i j (ranked (rank b) (rank a) Greater w) in omega arith)
       ] refl
 
-  in_order : Pairs Precedes new_classes
-  in_order =
-      pairs_given Precedes Precedes given (filter shared first.classes) (λ a b y z i j p q before.
-      let ia : IsIn a first.classes = (in_filter shared first.classes a i).0 in
-      let ib : IsIn b first.classes = (in_filter shared first.classes b j).0 in
-      let na : IsNew a y = class_new a y ia p in
-      let nb : IsNew b z = class_new b z ib q in
-      let still : Precedes (renamed_class renames a) (renamed_class renames b) =
-      precedes_still Within renames up one a b na.within nb.within (class_in first.classes is.classes.ordered a ia) (class_in first.classes is.classes.ordered b ib) before in
-      subst (λ (c : Class). Precedes c z) (sym na.same) (subst (λ (c : Class). Precedes (renamed_class renames a) c) (sym nb.same) still))
-      (pairs_filter Precedes shared first.classes (classes_pairs first.classes is.classes.ordered))
+  overlaps : Never (at_overlap_refused conf layer)
+  overlaps = pairs_never layer (refused_overlap conf) OverlapRefused (λ id other mark m e f so low.
+      let i : IsOwn id mark = own_at id mark e in
+      let j : IsOwn other m = own_at other m f in
+      let s : AreSpans conf i.was j.was = spans_are conf (called first) i.was j.was (sym (λ k. refused_overlap conf (i.mark_is k) (j.mark_is k)) ∙ so) in
+      let ir : rank id ≡ rank (called first i.one.held.id) = ap rank i.id_is in
+      let jr : rank other ≡ rank (called first j.one.held.id) = ap rank j.id_is in
+      let down : rank j.one.held.id < rank i.one.held.id = lower_old i.one.held.id j.one.held.id (text_of id mark i s.first) (text_of other m j s.second) (omega arith) in
+      let nowhere : option_map OverlapRefused (lower_pair (refused_overlap conf) first.1 i.one.held.id i.was) ≡ None =
+      sym (ap (option_and_then (overlap_refused conf first.1 i.one.held.id)) i.there) ∙ (obey first (inl refl)).well_formed.overlaps (at.Mark i.one.held.id) in
+      let test : (nat_lt (rank j.one.held.id) (rank i.one.held.id) && option_map_or (refused_overlap conf i.was) (mark_at first.1 j.one.held.id) false) ≡ false =
+      none_found (λ x. nat_lt (rank x) (rank i.one.held.id) && option_map_or (refused_overlap conf i.was) (mark_at first.1 x) false) (ids_of first.1)
+      (unmapped OverlapRefused (lower_pair (refused_overlap conf) first.1 i.one.held.id i.was) nowhere) j.one.held.id (in_ids first.1 j.one.held.id j.was j.there) in
+      let refused : refused_overlap conf i.was j.was ≡ false = sym (λ k. lt-ltb (rank j.one.held.id) (rank i.one.held.id) down k && option_map_or (refused_overlap conf i.was) (j.there k) false) ∙ test in
+      not_both (refused_overlap conf i.was j.was) s.refused refused)
 
-  ordered : (b : Class) → IsIn b new_classes → IsOrdered b
-  ordered b k =
-      let r : (x : Class) × (IsIn x (filter shared first.classes) × (given x ≡ Some b)) = in_given given (filter shared first.classes) b k in
-      let i : IsIn r.0 first.classes = (in_filter shared first.classes r.0 r.1.0).0 in
-      let n : IsNew r.0 b = class_new r.0 b i r.1.1 in
-      let p : Pairs Lower (map renames r.0.members) = renamed_up Within renames up one r.0.members n.within (ascends_pairs r.0.members (class_in first.classes is.classes.ordered r.0 i).ascends) in
-      subst IsOrdered (sym n.same) record { up = p }
+  -- ---- there is room
 
-  abbrev classes : List Class
-  classes = fold (λ cs class. joined class.kind class.members cs) [] new_classes
+  small : (kind : Kind) (n : ℕ) (mark : Mark) → mark_of layer kind n ≡ Some mark → (0 < n) × (n ≤ 10000)
+  small kind n mark e =
+      let c : Came (entries rows all [] closed few cs) kind n = came rows all [] closed few cs kind n mark e in
+      let i : IsEntry rows all [] closed few cs c.entry = of_entry rows all [] closed few cs c.entry c.among in
+      let number : n ≡ i.one.id.number = c.number_is ∙ ap (λ (w : AnnId × Mark). w.0.number) i.same in
+      let w : (0 < i.one.id.number) × (i.one.id.number ≤ 10000) = number_within (items_in (readings rows) []) i.one i.among few_ten in
+      (omega (arith, w.0, number), omega (arith, w.1, number))
 
-  classes_are : classes ≡ new_classes
-  classes_are = joined_are new_classes in_order ordered
+  of_map : {V : Type 0} (kind : Kind) (wrap : V → Mark) (m : finite.FinMap nat_cmp V) → ((n : ℕ) → mark_of layer kind n ≡ option_map wrap (finite.get m n)) → length (map (id_at kind) (finite.keys m)) ≤ 10000
+  of_map kind wrap m same =
+      let r : length (finite.keys m) ≤ 10000 = few_keys m (λ n k. let g : (mark : Mark) × (option_map wrap (finite.get m n) ≡ Some mark) = got m wrap n k in small kind n g.0 (same n ∙ g.1)) in
+      omega (arith, r, length_map (id_at kind) (finite.keys m))
 
-  abbrev made : Annotations
-  made = layer first rows is whole all few classes
+  none_legacy : length (map (id_at letter.Legacy) (finite.keys layer.legacy)) ≡ 0
+  none_legacy =
+      length_map (id_at letter.Legacy) (finite.keys layer.legacy) ∙ none_in (finite.keys layer.legacy) (λ n k.
+      let g : (mark : Mark) × (option_map marked.Attribute (finite.get layer.legacy n) ≡ Some mark) = got layer.legacy marked.Attribute n k in
+      let c : Came (entries rows all [] closed few cs) letter.Legacy n = came rows all [] closed few cs letter.Legacy n g.0 g.1 in
+      let i : IsEntry rows all [] closed few cs c.entry = of_entry rows all [] closed few cs c.entry c.among in
+      no_legacy i.one.held.id.kind (sym (letter_kept [] (items_in (readings rows) []) i.one i.among) ∙ sym (ap (λ (w : AnnId × Mark). w.0.kind) i.same) ∙ sym c.kind_is))
 
-  class_from : (index : ℕ) (class : Class) → slice_get classes index ≡ Some class → ClassOrigin first Within renames index class
-  class_from index class e =
-      let r : IsFrom given first.classes index class = from_place given shared first.classes index class (sym (ap (λ cs. slice_get cs index) classes_are) ∙ e) in
-      let n : IsNew r.was class = class_new r.was class r.among r.given in
-      record { place = r.place; was = r.was; there = r.there; within = n.within; is = n.same; low = r.low }
+  few_attributes : length (map (id_at letter.Attribute) (finite.keys layer.attributes) ++ map (id_at letter.Legacy) (finite.keys layer.legacy)) ≤ 10000
+  few_attributes =
+      let a : length (map (id_at letter.Attribute) (finite.keys layer.attributes)) ≤ 10000 = of_map letter.Attribute marked.Attribute layer.attributes (λ n. refl) in
+      omega (arith, a, none_legacy, length_append (map (id_at letter.Attribute) (finite.keys layer.attributes)) (map (id_at letter.Legacy) (finite.keys layer.legacy)))
 
-  is_part : IsPart first made Within renames
-  is_part = record {
-    fits = fits first rows is whole all few classes;
-    from = from first rows is whole all few classes;
-    kept = kept first rows is whole all few classes;
-    stands = λ id i. let m : HasNode first id = in_node first rows is whole all id i in (m.mark, m.there);
-    closed = in_closed first rows is whole all;
-    rising = up;
-    letter = in_letter first rows is whole all;
-    classes = class_from;
-  }
+  few_here : (kind : Kind) → length (counted_with layer kind) ≤ 10000
+  few_here letter.Text = of_map letter.Text marked.Span layer.spans (λ n. refl)
+  few_here letter.Event = of_map letter.Event marked.Event layer.events (λ n. refl)
+  few_here letter.Relation = of_map letter.Relation marked.Relation layer.relations (λ n. refl)
+  few_here letter.Attribute = few_attributes
+  few_here letter.Legacy = few_attributes
+  few_here letter.Normal = of_map letter.Normal marked.Normal layer.normals (λ n. refl)
+  few_here letter.Note = of_map letter.Note marked.Note layer.notes (λ n. refl)
 
-  made_is : curated (layers first (readings rows)) [] ≡ made
-  made_is = λ i. layer_of (record {
-    marks = filter_map (taken (layers first (readings rows)) (numbered_behind [] (items_are first (readings rows) i))) (numbered_behind [] (items_are first (readings rows) i));
-    classes = classes_taken (layers first (readings rows)) (numbered_behind [] (items_are first (readings rows) i));
-  })
+  -- a layer with at most 10,000 of each sort has room
+  room : Never (at_layer_full layer)
+  room place = go place
+    where
+      go : Never (at_layer_full layer)
+      go (at.Mark id) = split _
+        where
+          split : (o : Option Mark) → option_and_then (layer_full layer id) o ≡ None
+          split None = refl
+          split (Some mark) = ap (λ o. where_so (option_map_or (is_id id) o false) (LayerFull (counted_letter id.kind))) (past (counted_with layer id.kind) 10000 (few_here id.kind))
+      go (at.Class index) = split (slice_get layer.classes index) refl
+        where
+          split : (o : Option Class) → slice_get layer.classes index ≡ o → option_and_then (classes_full index) (slice_get layer.classes index) ≡ None
+          split None e = ap (option_and_then (classes_full index)) e
+          split (Some class) e =
+              let o : ClassOrigin rows In called index class = class_from first rest all [] closed few index class e in
+              let small : o.place < length o.row.1.classes = within o.row.1.classes o.place o.was o.there in
+              let all : length o.row.1.classes ≤ 10000 = few_classes o.row.1 (obey o.row o.among).well_formed.room in
+              let low : index ≤ o.place = o.low in
+              ap (option_and_then (classes_full index)) e ∙ ap (λ b. where_so b (LayerFull letter.Text)) (ne_eqb index 10000 (λ s. omega arith))
 
-  pub made_obeys : (conf : Configuration) (characters : ℕ) → Obeys conf characters first → Obeys conf characters (curated (layers first (readings rows)) [])
-  made_obeys conf characters obeys =
-      subst (Obeys conf characters) (sym made_is) (part_obeys first made Within renames is_part (few_here first rows is whole all few classes) conf characters obeys)
+  pub obeys : Obeys conf characters (curated (readings rows) [])
+  obeys =
+      suffice conf characters (curated (readings rows) []) (keeps first rest all [] closed few conf characters obey)
+      (all_cons Never (at_attribute_there layer) (at_overlap_refused conf layer ∷ at_layer_full layer ∷ []) attributes
+      (all_cons Never (at_overlap_refused conf layer) (at_layer_full layer ∷ []) overlaps (all_cons Never (at_layer_full layer) [] room (all_none Never))))
 
 -- ---- the law
-
--- a well-formed layer is coherent
-abbrev pub Coheres : Type 0
-Coheres = (conf : Configuration) (characters : ℕ) (layer : Annotations) → IsLayer layer → IsWellFormed conf characters layer → IsCoherent layer
-
-pub all_in : {X : Type 0} (P : X → Type 0) (xs : List X) → All P xs → (x : X) → IsIn x xs → P x
-all_in P [] h x k = absurd k
-all_in P (y ∷ ys) h x k = elim k [ inl e ↦ subst P (sym e) (all_head P y ys h) | inr m ↦ all_in P ys (all_tail P y ys h) x m ]
 
 pub undecided_obey : Coheres → UndecidedLayersObey
 undecided_obey cohere conf characters [] some layers_ obey = absurd (omega arith)
 undecided_obey cohere conf characters (row ∷ rows) some layers_ obey =
-    let Row : Type 0 = List ℕ × Annotations in
-    let is : IsLayer row.1 = all_head (λ (r : List ℕ × Annotations). IsLayer r.1) row rows layers_ in
-    let own : Obeys conf characters row.1 = all_head (λ (r : List ℕ × Annotations). Obeys conf characters r.1) row rows obey in
-    let others : (r : List ℕ × Annotations) → IsIn r rows → IsWhole r = λ r k.
-    let l : IsLayer r.1 = all_in (λ (z : List ℕ × Annotations). IsLayer z.1) rows (all_tail (λ (z : List ℕ × Annotations). IsLayer z.1) row rows layers_) r k in
-    let o : Obeys conf characters r.1 = all_in (λ (z : List ℕ × Annotations). Obeys conf characters z.1) rows (all_tail (λ (z : List ℕ × Annotations). Obeys conf characters z.1) row rows obey) r k in
-    (l, cohere conf characters r.1 l o.well_formed) in
-    made_obeys row.1 rows is (cohere conf characters row.1 is own.well_formed) others (few_counted row.1 is own.well_formed.room) conf characters own
+    let layers_in : (r : Row) → IsIn r (row ∷ rows) → IsLayer r.1 = all_in (λ (z : Row). IsLayer z.1) (row ∷ rows) layers_ in
+    let obey_in : (r : Row) → IsIn r (row ∷ rows) → Obeys conf characters r.1 = all_in (λ (z : Row). Obeys conf characters z.1) (row ∷ rows) obey in
+    obeys row rows (λ r k. (layers_in r k, cohere conf characters r.1 (layers_in r k) (obey_in r k).well_formed)) conf characters obey_in

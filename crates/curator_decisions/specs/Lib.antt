@@ -6,3 +6,4 @@ pub mod Deciding
 pub mod DecisionFaults
 pub mod Undecided
 pub mod DecidedLaws
+pub mod CuratedLaws

@@ -5,6 +5,7 @@
 #![tactic(auto)]
 
 mod building;
+mod curated_laws;
 mod decided_laws;
 mod deciding;
 mod decision_fault;
@@ -16,6 +17,7 @@ mod renaming;
 mod verdict;
 mod worked_rows;
 
+pub use crate::curated_laws::{decided_layers_break_three, refusals_break_three};
 pub use crate::decided_laws::{decisions_are_a_map, decisions_stay_accepted, verdicts_are_set};
 pub use crate::decision_fault::DecisionFault;
 pub use crate::decisions::{Decisions, item_rank};

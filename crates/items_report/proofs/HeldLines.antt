@@ -15,7 +15,7 @@ use Rattle.unanimous_merge.specs.declared.item.Item.{Item}
 use Rattle.unanimous_merge.specs.Items.{Held, held_by, held_from, item_of, items, leaders, name_of}
 use Rattle.unanimous_merge.specs.Readings.{content_under, contents, reading_of, readings}
 use Rattle.unanimous_merge.proofs.ListLemmas.{all_cons, all_head, all_map, all_none, all_tail}
-use Rattle.curator_decisions.proofs.UndecidedItems.{in_firsts}
+use Rattle.curator_decisions.proofs.CuratedItems.{in_firsts}
 use Rattle.items_report.specs.ItemRows.{behind_id, lines_of}
 use Rattle.items_report.specs.ItemsTable.{CanBeListed, files_of, line_of_item}
 use Rattle.items_report.proofs.ItemLines.{has_content, line_there}

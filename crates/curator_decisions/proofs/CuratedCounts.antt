@@ -1,5 +1,5 @@
 -- How many annotations of a letter a layer has, and how many of them are items.
-use Rattle.std.proofs.Common.{◌≡◌, ℕ, zero, suc, ◌+◌, ◌<◌, ◌≤◌, ◌⊎◌, ◌==◌, ◌&&◌, min, eq-eqb, Bool, true, false, cond, T, List, [], ◌∷◌, ◌++◌, map, length, slice_get, refl, sym, ◌∙◌, ap, subst, inl, inr, Option, Some, None, is_some, arith}
+use Rattle.std.proofs.Common.{◌≡◌, ℕ, zero, suc, ◌+◌, ◌<◌, ◌*◌, ◌≤◌, ◌⊎◌, ◌==◌, ◌&&◌, min, eq-eqb, Bool, true, false, cond, T, List, [], ◌∷◌, ◌++◌, map, length, slice_get, refl, sym, ◌∙◌, ap, subst, inl, inr, Option, Some, None, is_some, arith}
 use Rattle.std.specs.Option.{option_map, option_map_or, option_and_then}
 use Rattle.std.specs.List.{count_by}
 use Rattle.std.specs.Ordering.{nat_cmp, is_lt}
@@ -25,17 +25,17 @@ use Rattle.layer_model.specs.LayerIds.{ids_of_letter}
 use Rattle.layer_rules.specs.LayerRules.{counted_letter, counted_with, is_id, layer_full}
 use Rattle.layer_rules.specs.WellFormed.{Never, at_layer_full}
 use Rattle.content_keys.specs.Nodes.{IsIn}
-use Rattle.content_keys.specs.LayerContents.{ids_of}
+use Rattle.content_keys.specs.LayerContents.{content_of, ids_of}
 use Rattle.content_keys.proofs.BagLemmas.{map-IsIn, IsIn-either}
-use Rattle.unanimous_merge.specs.Items.{Held, firsts}
-use Rattle.unanimous_merge.specs.Readings.{Reading}
-use Rattle.unanimous_merge.specs.Unanimous.{in_each}
+use Rattle.unanimous_merge.specs.Items.{Held, held_by, held_from, leaders}
+use Rattle.unanimous_merge.specs.Readings.{contents, reading_of, readings}
 use Rattle.unanimous_merge.proofs.ListLemmas.{length_map}
 use Rattle.curator_decisions.specs.Curated.{count_of_letter, curated_letter, letter_of_item}
-use Rattle.curator_decisions.proofs.UndecidedItems.{chosen, count_firsts, is_less, layers, left, own, right}
-use Rattle.curator_decisions.proofs.UndecidedLists.{bit, count_append, count_cons, count_filter}
-use Rattle.curator_decisions.proofs.UndecidedOwn.{count_map}
-use Rattle.curator_decisions.proofs.UndecidedPart.{has_key, so_none}
+use Rattle.curator_decisions.specs.Decisions.{Decided, is_in, items_in}
+use Rattle.curator_decisions.proofs.CuratedItems.{count_firsts, is_less, left, right}
+use Rattle.curator_decisions.proofs.ListLemmas.{bit, count_append, count_cons, count_filter}
+use Rattle.curator_decisions.proofs.CuratedOwn.{count_map}
+use Rattle.curator_decisions.proofs.CuratedParts.{Row, has_key, so_none}
 
 -- ---- what stands under a number of a letter
 
@@ -99,7 +99,7 @@ few_counted l is nowhere kind = elim (some_within (counted_with l kind) 10000 (s
 
 -- ---- how many items of a letter there are
 
-abbrev at_letter : ℕ → AnnId → Bool
+abbrev pub at_letter : ℕ → AnnId → Bool
 at_letter place id = letter_place (curated_letter id.kind) == place
 
 count_letter : (place : ℕ) (kind : Kind) (ns : List ℕ) → count_by (at_letter place) (map (id_at kind) ns) ≡ cond (letter_place (curated_letter kind) == place) (length ns) 0
@@ -126,7 +126,7 @@ pub length_append : {X : Type 0} (xs ys : List X) → length (xs ++ ys) ≡ leng
 length_append [] ys = omega arith
 length_append (x ∷ xs) ys = let r : length (xs ++ ys) ≡ length xs + length ys = length_append xs ys in omega arith
 
-few_ids : (l : Annotations) → ((kind : Kind) → length (counted_with l kind) ≤ 10000) → (kind : Kind) → count_by (at_letter (letter_place kind)) (ids_of l) ≤ 10000
+pub few_ids : (l : Annotations) → ((kind : Kind) → length (counted_with l kind) ≤ 10000) → (kind : Kind) → count_by (at_letter (letter_place kind)) (ids_of l) ≤ 10000
 few_ids l few letter.Text = let h : length (ids_of_letter l letter.Text) ≤ 10000 = few letter.Text in omega (arith, count_ids 0 l, h, length_letters l letter.Text)
 few_ids l few letter.Event = let h : length (ids_of_letter l letter.Event) ≤ 10000 = few letter.Event in omega (arith, count_ids 1 l, h, length_letters l letter.Event)
 few_ids l few letter.Relation = let h : length (ids_of_letter l letter.Relation) ≤ 10000 = few letter.Relation in omega (arith, count_ids 2 l, h, length_letters l letter.Relation)
@@ -137,17 +137,30 @@ few_ids l few letter.Legacy = omega (arith, count_ids 4 l)
 few_ids l few letter.Normal = let h : length (ids_of_letter l letter.Normal) ≤ 10000 = few letter.Normal in omega (arith, count_ids 5 l, h, length_letters l letter.Normal)
 few_ids l few letter.Note = omega (arith, count_ids 6 l)
 
--- there are no more items of a letter than annotations
-pub few_items : (first : Annotations) (others : List Reading) → ((kind : Kind) → length (counted_with first kind) ≤ 10000) → (kind : Kind) → count_of_letter kind (chosen first others) ≤ 10000
-few_items first others few kind =
-    let test : Held → Bool = λ held. letter_place (letter_of_item held) == letter_place kind in
-    let a : count_of_letter kind (chosen first others) ≤ count_of_letter kind (firsts (map (own first others) (ids_of first))) =
-    count_filter (λ held. letter_place (letter_of_item held) == letter_place kind) (λ h. in_each (layers first others) h.content) (firsts (map (own first others) (ids_of first))) in
-    let b : count_of_letter kind (firsts (map (own first others) (ids_of first))) ≤ count_of_letter kind (map (own first others) (ids_of first)) =
-    count_firsts (λ held. letter_place (letter_of_item held) == letter_place kind) (map (own first others) (ids_of first)) in
-    let e : count_of_letter kind (map (own first others) (ids_of first)) ≡ count_by (at_letter (letter_place kind)) (ids_of first) =
-    count_map (own first others) (λ held. letter_place (letter_of_item held) == letter_place kind) (ids_of first) in
-    omega (arith, a, b, e, few_ids first few kind)
+-- so many of a letter of one holder
+few_own : (row : Row) (n : ℕ) → ((kind : Kind) → length (counted_with row.1 kind) ≤ 10000) → (kind : Kind) → count_of_letter kind (held_by n (contents (reading_of row.1))) ≤ 10000
+few_own row n few kind =
+    let a : count_of_letter kind (held_by n (contents (reading_of row.1))) ≡ count_by (λ (e : AnnId × ℕ). letter_place (curated_letter e.0.kind) == letter_place kind) (contents (reading_of row.1)) =
+    count_map (λ (e : AnnId × ℕ). let z : Held = record { holder = n; id = e.0; content = e.1 } in z) (λ held. letter_place (letter_of_item held) == letter_place kind) (contents (reading_of row.1)) in
+    let b : count_by (λ (e : AnnId × ℕ). letter_place (curated_letter e.0.kind) == letter_place kind) (contents (reading_of row.1)) ≡ count_by (at_letter (letter_place kind)) (ids_of row.1) =
+    count_map (λ (id : AnnId). let z : AnnId × ℕ = (id, content_of row.1 id) in z) (λ (e : AnnId × ℕ). letter_place (curated_letter e.0.kind) == letter_place kind) (ids_of row.1) in
+    omega (arith, a, b, few_ids row.1 few kind)
+
+few_held : (rows : List Row) (n : ℕ) → ((row : Row) → IsIn row rows → (kind : Kind) → length (counted_with row.1 kind) ≤ 10000) → (kind : Kind) → count_of_letter kind (held_from n (map contents (readings rows))) ≤ 10000 * length rows
+few_held [] n few kind = let z : count_of_letter kind [] ≡ 0 = refl in omega arith
+few_held (row ∷ rows) n few kind =
+    let a : count_of_letter kind (held_by n (contents (reading_of row.1))) ≤ 10000 = few_own row n (few row (inl refl)) kind in
+    let b : count_of_letter kind (held_from (suc n) (map contents (readings rows))) ≤ 10000 * length rows = few_held rows (suc n) (λ r k. few r (inr k)) kind in
+    omega (arith, a, b, count_append (λ held. letter_place (letter_of_item held) == letter_place kind) (held_by n (contents (reading_of row.1))) (held_from (suc n) (map contents (readings rows))))
+
+-- there is an ID for each item of fewer than 100,000 layers
+pub few_in : (rows : List Row) (decided : Decided) → length rows < 100000 → ((row : Row) → IsIn row rows → (kind : Kind) → length (counted_with row.1 kind) ≤ 10000) → (kind : Kind) → count_of_letter kind (items_in (readings rows) decided) ≤ 999999999
+few_in rows decided short few kind =
+    let every : List Held = held_from 0 (map contents (readings rows)) in
+    let a : count_of_letter kind (items_in (readings rows) decided) ≤ count_of_letter kind (leaders (readings rows)) = count_filter (λ held. letter_place (letter_of_item held) == letter_place kind) (is_in (readings rows) decided) (leaders (readings rows)) in
+    let b : count_of_letter kind (leaders (readings rows)) ≤ count_of_letter kind (held_from 0 (map contents (readings rows))) = count_firsts (λ held. letter_place (letter_of_item held) == letter_place kind) (held_from 0 (map contents (readings rows))) in
+    let c : count_of_letter kind (held_from 0 (map contents (readings rows))) ≤ 10000 * length rows = few_held rows 0 few kind in
+    omega arith
 
 -- ---- numbers between 1 and 10,000 are at most so many
 

@@ -1,8 +1,9 @@
 -- Lists in which each element stands in a relation to those behind it, and counts.
-use Rattle.std.proofs.Common.{◌≡◌, ℕ, ◌+◌, ◌≤◌, ◌⊎◌, ◌&&◌, ◌||◌, Bool, true, false, cond, List, [], ◌∷◌, ◌++◌, filter, refl, sym, ◌∙◌, ap, subst, inl, inr, Option, Some, None, arith}
+use Rattle.std.proofs.Common.{◌≡◌, ℕ, ◌+◌, ◌≤◌, ◌⊎◌, ◌&&◌, ◌||◌, Bool, true, false, cond, List, [], ◌∷◌, ◌++◌, filter, map, refl, sym, ◌∙◌, ap, subst, inl, inr, Option, Some, None, arith}
 use Rattle.std.proofs.lemmas.List.Sums.{sum_by-cons}
 use Rattle.std.specs.List.{cons_option, count_by, filter_map}
 use Rattle.content_keys.specs.Nodes.{IsIn}
+use Rattle.content_keys.proofs.BagLemmas.{IsIn-either, map-IsIn}
 
 -- each element stands in the relation to each behind it
 abbrev pub Pairs : {X : Type 0} → (X → X → Type 0) → List X → Type 0
@@ -42,6 +43,18 @@ pairs_filter R p (x ∷ xs) h =
 pub pairs_more : {X : Type 0} (R S : X → X → Type 0) (xs : List X) → ((x y : X) → IsIn x xs → IsIn y xs → R x y → S x y) → Pairs R xs → Pairs S xs
 pairs_more R S [] f h = tt
 pairs_more R S (x ∷ xs) f h = (λ y k. f x y (inl refl) (inr k) (h.0 y k), pairs_more R S xs (λ a b i j. f a b (inr i) (inr j)) h.1)
+
+pub pairs_append : {X : Type 0} (R : X → X → Type 0) (xs ys : List X) → Pairs R xs → Pairs R ys → ((x y : X) → IsIn x xs → IsIn y ys → R x y) → Pairs R (xs ++ ys)
+pairs_append R [] ys h g across = g
+pairs_append R (x ∷ xs) ys h g across =
+    (λ y k. elim (IsIn-either y xs ys k) [ inl i ↦ h.0 y i | inr j ↦ across x y (inl refl) j ], pairs_append R xs ys h.1 g (λ a b i j. across a b (inr i) j))
+
+pub pairs_map : {X Y : Type 0} (R : X → X → Type 0) (S : Y → Y → Type 0) (f : X → Y) (xs : List X) → ((a b : X) → R a b → S (f a) (f b)) → Pairs R xs → Pairs S (map f xs)
+pairs_map R S f [] keeps h = tt
+pairs_map {X} {Y} R S f (x ∷ xs) keeps h = (
+  λ y k. let r : (z : X) × (IsIn z xs × (y ≡ f z)) = map-IsIn f y xs k in subst (S (f x)) (sym r.1.1) (keeps x r.0 (h.0 r.0 r.1.0)),
+  pairs_map R S f xs keeps h.1,
+)
 
 -- ---- lists that are mapped where something is given
 

@@ -1,10 +1,10 @@
--- A layer that is a part of another one under new IDs: a rule that breaks nowhere in the whole breaks nowhere in the part.
-use Rattle.std.proofs.Common.{◌≡◌, ℕ, ◌<◌, ◌≤◌, ◌⊎◌, Bool, true, false, ◌||◌, cond, List, [], ◌∷◌, map, slice_get, refl, sym, ◌∙◌, ap, subst, inl, inr, Option, Some, None, arith}
+-- A layer whose marks are some of those of other layers, under new IDs: a rule on what is told of one mark alone, and on
+-- what is shown of what it names, that breaks nowhere in the layers breaks nowhere in it.
+use Rattle.std.proofs.Common.{◌≡◌, ℕ, ◌≤◌, ◌⊎◌, Bool, true, false, ◌||◌, cond, List, [], ◌∷◌, map, slice_get, refl, sym, ◌∙◌, ap, subst, inl, inr, Option, Some, None}
 use Rattle.std.specs.Option.{option_map, option_and_then, is_some}
 use Rattle.std.specs.List.{find, list_any}
 use Rattle.std.specs.Ordering.{nat_cmp, eq_by_cmp, is_eq}
-use Rattle.std.specs.Cmp.{Equal-is, nat_cmp_total, ranked, tied_itself}
-use Rattle.std.specs.declared.cmp.Ordering.TheVariants.{Less, Equal, Greater}
+use Rattle.std.specs.Cmp.{Equal-is, nat_cmp_total, tied_itself}
 use Rattle.std.specs.FinMap as finite
 use Rattle.std.specs.FinMap.{contains_key-keys, nat_cmp-IsAntisymmetric}
 use Rattle.mark_base.specs.declared.ann_id.AnnId.{AnnId}
@@ -12,10 +12,14 @@ use Rattle.mark_base.specs.declared.ann_id.Kind.{Kind}
 use Rattle.mark_base.specs.declared.ann_id.Kind.TheVariants as letter
 use Rattle.mark_base.specs.ReadIds.{id_at}
 use Rattle.mark_base.proofs.IdLemmas.{id_at-id, id_of_parts}
+use Rattle.mark_base.specs.declared.table_places.TypeId.{TypeId}
+use Rattle.conf_model.specs.declared.attr_target.AttrTarget.{AttrTarget}
+use Rattle.conf_model.specs.declared.attr_target.AttrTarget.TheVariants.{Bound, Between}
 use Rattle.layer_model.specs.declared.class.Class.{Class}
 use Rattle.layer_model.specs.declared.mark.Mark.{Mark}
 use Rattle.layer_model.specs.declared.mark.Mark.TheVariants as marked
 use Rattle.layer_model.specs.declared.rule.Rule.{Rule}
+use Rattle.layer_model.specs.declared.flaw.FlawPlace.{FlawPlace}
 use Rattle.layer_model.specs.declared.flaw.FlawPlace.TheVariants as at
 use Rattle.layer_model.specs.Annotations.{Annotations}
 use Rattle.layer_model.specs.Classes.{rank}
@@ -27,43 +31,75 @@ use Rattle.layer_rules.specs.MarkRules.{named_by, where_so}
 use Rattle.layer_rules.specs.WellFormed.{Never}
 use Rattle.content_keys.specs.Nodes.{IsIn}
 use Rattle.content_keys.proofs.BagLemmas.{IsIn-map, IsIn-left, IsIn-right, map_map}
-use Rattle.content_keys.proofs.IdLemmas.{same_rank}
 use Rattle.curator_decisions.specs.Curated.{curated_letter, renamed, renamed_arg}
-use Rattle.curator_decisions.proofs.UndecidedLists.{or_true}
+use Rattle.curator_decisions.proofs.ListLemmas.{or_true}
 
--- where a mark of the part comes from
-pub record Origin (first : Annotations) (In : AnnId → Type 0) (new : AnnId → AnnId) (id : AnnId) (mark : Mark) : Type 0 where
+-- a layer of a snapshot, beside its text
+abbrev pub Row : Type 0
+Row = List ℕ × Annotations
+
+-- no layer of these breaks a rule
+abbrev pub Nowhere : List Row → (Row → FlawPlace → Option Rule) → Type 0
+Nowhere rows broken = (row : Row) → IsIn row rows → Never (broken row)
+
+-- where a mark of a layer comes from: what it is called and what it names is known in the layer of its holder
+pub record Origin (rows : List Row) (In : Row → AnnId → Type 0) (new : Row → AnnId → AnnId) (id : AnnId) (mark : Mark) : Type 0 where
+  pub row : Row
+  pub among : IsIn row rows
   pub old : AnnId
-  pub within : In old
+  pub within : In row old
   pub was : Mark
-  pub there : mark_at first old ≡ Some was
-  pub id_is : id ≡ new old
-  pub mark_is : mark ≡ renamed new was
+  pub there : mark_at row.1 old ≡ Some was
+  pub id_is : id ≡ new row old
+  pub mark_is : mark ≡ renamed (new row) was
+  pub names : (y : AnnId) → IsIn y (named was) → In row y
 
 -- a class with new IDs
 abbrev pub renamed_class : (AnnId → AnnId) → Class → Class
 renamed_class new class = record { kind = class.kind; members = map new class.members }
 
--- where a class of the part comes from
-pub record ClassOrigin (first : Annotations) (In : AnnId → Type 0) (new : AnnId → AnnId) (index : ℕ) (class : Class) : Type 0 where
+-- where a class of a layer comes from; its members stay apart
+pub record ClassOrigin (rows : List Row) (In : Row → AnnId → Type 0) (new : Row → AnnId → AnnId) (index : ℕ) (class : Class) : Type 0 where
+  pub row : Row
+  pub among : IsIn row rows
   pub place : ℕ
   pub was : Class
-  pub there : slice_get first.classes place ≡ Some was
-  pub within : (id : AnnId) → IsIn id was.members → In id
-  pub is : class ≡ renamed_class new was
+  pub there : slice_get row.1.classes place ≡ Some was
+  pub within : (id : AnnId) → IsIn id was.members → In row id
+  pub apart : (a b : AnnId) → IsIn a was.members → IsIn b was.members → rank (new row a) ≡ rank (new row b) → a ≡ b
+  pub is : class ≡ renamed_class (new row) was
   pub low : index ≤ place
 
--- a layer has a part of the marks of another one, under new IDs: what a mark names is in the part, and new IDs are in the
--- order of the old ones; its classes are of those whose members are all in the part
-pub record IsPart (first layer : Annotations) (In : AnnId → Type 0) (new : AnnId → AnnId) : Type 0 where
+-- the type that a mark has
+abbrev pub type_in : Mark → Option TypeId
+type_in (marked.Span span) = Some span.kind
+type_in (marked.Event event) = Some event.kind
+type_in mark = None
+
+-- what an attribute on a mark is set on
+abbrev pub target_in : Mark → Option AttrTarget
+target_in (marked.Span span) = Some (Bound span.kind)
+target_in (marked.Event event) = Some (Bound event.kind)
+target_in (marked.Relation relation) = Some (Between relation.kind)
+target_in mark = None
+
+-- what stands under an ID, and what is shown in its place
+pub record Shown (layer : Annotations) (row : Row) (id new : AnnId) : Type 0 where
+  pub mark : Mark
+  pub there : mark_at row.1 id ≡ Some mark
+  pub now : Mark
+  pub here : mark_at layer new ≡ Some now
+  pub type_is : type_in now ≡ type_in mark
+  pub target_is : target_in now ≡ target_in mark
+
+-- each mark of a layer is one of some layers, under new IDs: what is known of these is shown in it by an annotation of
+-- the same type and letter; and its classes are theirs
+pub record IsPart (rows : List Row) (layer : Annotations) (In : Row → AnnId → Type 0) (new : Row → AnnId → AnnId) : Type 0 where
   pub fits : (kind : Kind) (n : ℕ) (mark : Mark) → mark_of layer kind n ≡ Some mark → n ≤ 999999999
-  pub from : (id : AnnId) (mark : Mark) → mark_at layer id ≡ Some mark → Origin first In new id mark
-  pub kept : (old : AnnId) (mark : Mark) → In old → mark_at first old ≡ Some mark → mark_at layer (new old) ≡ Some (renamed new mark)
-  pub stands : (old : AnnId) → In old → (mark : Mark) × (mark_at first old ≡ Some mark)
-  pub closed : (old : AnnId) (mark : Mark) → In old → mark_at first old ≡ Some mark → (id : AnnId) → IsIn id (named mark) → In id
-  pub rising : (a b : AnnId) → In a → In b → rank a < rank b → rank (new a) < rank (new b)
-  pub letter : (old : AnnId) → In old → (new old).kind ≡ curated_letter old.kind
-  pub classes : (index : ℕ) (class : Class) → slice_get layer.classes index ≡ Some class → ClassOrigin first In new index class
+  pub from : (id : AnnId) (mark : Mark) → mark_at layer id ≡ Some mark → Origin rows In new id mark
+  pub shown : (row : Row) (id : AnnId) → In row id → Shown layer row id (new row id)
+  pub letter : (row : Row) (old : AnnId) → In row old → (new row old).kind ≡ curated_letter old.kind
+  pub classes : (index : ℕ) (class : Class) → slice_get layer.classes index ≡ Some class → ClassOrigin rows In new index class
 
 -- ---- options and tests
 
@@ -94,6 +130,14 @@ none_found {X} p (y ∷ ys) e x k =
     elim (p y) as (λ b. p y ≡ b → cond b (Some y) (find p ys) ≡ None → p x ≡ false) [
       | true ↦ λ _ found. none_some (sym found)
       | false ↦ λ no later. elim k [ inl same ↦ ap p same ∙ no | inr m ↦ none_found p ys later x m ]
+    ] refl e
+
+pub any_none : {X : Type 0} (p : X → Bool) (xs : List X) → list_any p xs ≡ false → (x : X) → IsIn x xs → p x ≡ false
+any_none p [] e x k = absurd k
+any_none {X} p (y ∷ ys) e x k =
+    elim (p y) as (λ b. p y ≡ b → (b || list_any p ys) ≡ false → p x ≡ false) [
+      | true ↦ λ _ h. not_both true refl h
+      | false ↦ λ no h. elim k [ inl same ↦ ap p same ∙ no | inr m ↦ any_none p ys h x m ]
     ] refl e
 
 pub find_mapped : {X Y : Type 0} (p : X → Bool) (q : Y → Bool) (f : X → Y) (xs : List X) → ((x : X) → IsIn x xs → q (f x) ≡ p x) → find q (map f xs) ≡ option_map f (find p xs)
@@ -176,56 +220,38 @@ in_ids l id mark e =
 
 -- ---- the part
 
-module _ (first layer : Annotations) (In : AnnId → Type 0) (new : AnnId → AnnId) (part : IsPart first layer In new) where
-  -- a rule that breaks nowhere in the whole breaks nowhere in the part
-  pub carry : (f f' : AnnId → Mark → Option Rule) (g g' : ℕ → Class → Option Rule)
-      → ((old : AnnId) (mark : Mark) → In old → mark_at first old ≡ Some mark → f old mark ≡ None → f' (new old) (renamed new mark) ≡ None)
-      → ((index place : ℕ) (class : Class) → index ≤ place → slice_get first.classes place ≡ Some class → ((id : AnnId) → IsIn id class.members → In id) → g place class ≡ None → g' index (renamed_class new class) ≡ None)
-      → Never (by_place f g first) → Never (by_place f' g' layer)
+module _ (rows : List Row) (layer : Annotations) (In : Row → AnnId → Type 0) (new : Row → AnnId → AnnId) (part : IsPart rows layer In new) where
+  -- a rule that breaks nowhere in the layers breaks nowhere in the part
+  pub carry : (f : Row → AnnId → Mark → Option Rule) (f' : AnnId → Mark → Option Rule) (g : Row → ℕ → Class → Option Rule) (g' : ℕ → Class → Option Rule)
+      → ((id : AnnId) (mark : Mark) (o : Origin rows In new id mark) → f o.row o.old o.was ≡ None → f' (new o.row o.old) (renamed (new o.row) o.was) ≡ None)
+      → ((index : ℕ) (class : Class) (o : ClassOrigin rows In new index class) → g o.row o.place o.was ≡ None → g' index (renamed_class (new o.row) o.was) ≡ None)
+      → Nowhere rows (λ row. by_place (f row) (g row) row.1) → Never (by_place f' g' layer)
   carry f f' g g' marks classes nowhere (at.Mark id) = split (mark_at layer id) refl
     where
       split : (o : Option Mark) → mark_at layer id ≡ o → option_and_then (f' id) (mark_at layer id) ≡ None
       split None e = ap (option_and_then (f' id)) e
       split (Some mark) e =
-          let o : Origin first In new id mark = part.from id mark e in
-          ap (option_and_then (f' id)) e ∙ (λ i. f' (o.id_is i) (o.mark_is i)) ∙ marks o.old o.was o.within o.there (sym (ap (option_and_then (f o.old)) o.there) ∙ nowhere (at.Mark o.old))
+          let o : Origin rows In new id mark = part.from id mark e in
+          ap (option_and_then (f' id)) e ∙ (λ i. f' (o.id_is i) (o.mark_is i)) ∙ marks id mark o (sym (ap (option_and_then (f o.row o.old)) o.there) ∙ nowhere o.row o.among (at.Mark o.old))
   carry f f' g g' marks classes nowhere (at.Class index) = split (slice_get layer.classes index) refl
     where
       split : (o : Option Class) → slice_get layer.classes index ≡ o → option_and_then (g' index) (slice_get layer.classes index) ≡ None
       split None e = ap (option_and_then (g' index)) e
       split (Some class) e =
-          let o : ClassOrigin first In new index class = part.classes index class e in
-          ap (option_and_then (g' index)) e ∙ (λ i. g' index (o.is i)) ∙ classes index o.place o.was o.low o.there o.within (sym (ap (option_and_then (g o.place)) o.there) ∙ nowhere (at.Class o.place))
-
-  -- two old IDs with one new ID are one
-  pub one : (a b : AnnId) → In a → In b → rank (new a) ≡ rank (new b) → a ≡ b
-  one a b i j e =
-      elim (nat_cmp (rank a) (rank b)) as (λ r. r ≡ nat_cmp (rank a) (rank b) → a ≡ b) [
-        | Less ↦ λ w. absurd (let up : rank (new a) < rank (new b) = part.rising a b i j (ranked (rank a) (rank b) Less w) in omega arith)
-        | Equal ↦ λ w. same_rank a b (ranked (rank a) (rank b) Equal w)
-        | Greater ↦ λ w. absurd (let up : rank (new b) < rank (new a) = part.rising b a j i (ranked (rank a) (rank b) Greater w) in omega arith)
-      ] refl
-
-  -- where a new ID is lower, the old one is
-  pub lower : (a b : AnnId) → In a → In b → rank (new a) < rank (new b) → rank a < rank b
-  lower a b i j h =
-      elim (nat_cmp (rank a) (rank b)) as (λ r. r ≡ nat_cmp (rank a) (rank b) → rank a < rank b) [
-        | Less ↦ λ w. ranked (rank a) (rank b) Less w
-        | Equal ↦ λ w. absurd (let same : rank (new a) ≡ rank (new b) = ap (λ x. rank (new x)) (same_rank a b (ranked (rank a) (rank b) Equal w)) in omega arith)
-        | Greater ↦ λ w. absurd (let up : rank (new b) < rank (new a) = part.rising b a j i (ranked (rank a) (rank b) Greater w) in omega arith)
-      ] refl
+          let o : ClassOrigin rows In new index class = part.classes index class e in
+          ap (option_and_then (g' index)) e ∙ (λ i. g' index (o.is i)) ∙ classes index class o (sym (ap (option_and_then (g o.row o.place)) o.there) ∙ nowhere o.row o.among (at.Class o.place))
 
   -- the ID of a span that states an event, by its number
-  pub trigger_is : (t : AnnId) → In t → t.kind ≡ letter.Text → id_at letter.Text (new t).number ≡ new t
-  trigger_is t i text = sym (id_of_parts (new t) letter.Text (new t).number (part.letter t i ∙ ap curated_letter text) refl)
+  pub trigger_is : (row : Row) (t : AnnId) → In row t → t.kind ≡ letter.Text → id_at letter.Text (new row t).number ≡ new row t
+  trigger_is row t i text = sym (id_of_parts (new row t) letter.Text (new row t).number (part.letter row t i ∙ ap curated_letter text) refl)
 
   -- what a mark names in the part
-  pub names_renamed : (mark : Mark) → ((id : AnnId) → IsIn id (named mark) → In id) → named_by (renamed new mark) ≡ map new (named mark)
-  names_renamed (marked.Span span) all = refl
-  names_renamed (marked.Event event) all = λ i.
-      trigger_is (trigger_id event) (all (trigger_id event) (inl refl)) refl i
-      ∷ (map_map (λ arg. arg.target) (renamed_arg new) event.args ∙ sym (map_map new (λ arg. arg.target) event.args)) i
-  names_renamed (marked.Relation relation) all = refl
-  names_renamed (marked.Attribute attribute) all = refl
-  names_renamed (marked.Normal normal) all = refl
-  names_renamed (marked.Note note) all = refl
+  pub names_renamed : (row : Row) (mark : Mark) → ((id : AnnId) → IsIn id (named mark) → In row id) → named_by (renamed (new row) mark) ≡ map (new row) (named mark)
+  names_renamed row (marked.Span span) all = refl
+  names_renamed row (marked.Event event) all = λ i.
+      trigger_is row (trigger_id event) (all (trigger_id event) (inl refl)) refl i
+      ∷ (map_map (λ arg. arg.target) (renamed_arg (new row)) event.args ∙ sym (map_map (new row) (λ arg. arg.target) event.args)) i
+  names_renamed row (marked.Relation relation) all = refl
+  names_renamed row (marked.Attribute attribute) all = refl
+  names_renamed row (marked.Normal normal) all = refl
+  names_renamed row (marked.Note note) all = refl

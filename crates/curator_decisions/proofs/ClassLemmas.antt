@@ -1,4 +1,4 @@
--- The classes of the layer that no decisions make are classes of the first layer, under new IDs, in their order.
+-- Classes in their order, under new IDs that keep the order of the old ones.
 use Rattle.std.proofs.Common.{◌≡◌, ℕ, ◌<◌, ◌⊎◌, ◌==◌, ◌&&◌, ◌||◌, nat_lt, eqb-true, eq-eqb, Bool, true, false, not, cond, List, [], ◌∷◌, ◌++◌, map, length, refl, sym, ◌∙◌, ap, subst, inl, inr, arith}
 use Rattle.std.proofs.lemmas.Bool.Decides.{eqb_tells, nat_tests}
 use Rattle.std.specs.List.{AllByRecursion, fold, list_any}
@@ -12,8 +12,8 @@ use Rattle.layer_model.specs.Classes.{AreClasses, AreDisjoint, Ascends, IsClass,
 use Rattle.layer_model.proofs.ClassOrder.{insert_class-last}
 use Rattle.layer_model.proofs.IdSets.{is_less, less}
 use Rattle.content_keys.specs.Nodes.{IsIn}
-use Rattle.curator_decisions.proofs.UndecidedLists.{Pairs, or_true}
-use Rattle.curator_decisions.proofs.UndecidedPart.{not_both, renamed_class}
+use Rattle.curator_decisions.proofs.ListLemmas.{Pairs, or_true}
+use Rattle.curator_decisions.proofs.CuratedParts.{not_both, renamed_class}
 
 -- ---- IDs that ascend are in their order already
 
