@@ -23,7 +23,7 @@ use Rattle.curator_decisions.specs.Curated.{curated}
 use Rattle.curator_decisions.specs.CuratedLaws.{AreFinished, DecidedLayersBreakThree, DecisionsBreakThree, FirstBrokenIsOfThree, IsOfThree, TakingBackBreaksThree, ThreeSuffice, VerdictsBreakThree}
 use Rattle.curator_decisions.specs.DecisionFaults.{changed_fault, first_broken, lacking, layer_fault, missing, needed, undecided_fault, verdict_fault}
 use Rattle.curator_decisions.specs.Decisions.{Decided, held_as, is_in, verdict_on, with_verdict, without_verdict}
-use Rattle.curator_decisions.proofs.CuratedCounts.{few_counted, few_in}
+use Rattle.curator_decisions.proofs.CuratedCounts.{few_counted, few_in, layer_fits}
 use Rattle.curator_decisions.proofs.CuratedNames.{IsWhole}
 use Rattle.curator_decisions.proofs.CuratedParts.{Row, none_some}
 use Rattle.curator_decisions.proofs.CuratedRules.{KeepsOthers, breaks_three, first_is, keeps, suffice, three_told}
@@ -44,7 +44,7 @@ keeps_others cohere conf characters (row ∷ rows) decided done closed =
     let layers : (r : Row) → IsIn r (row ∷ rows) → IsLayer r.1 = all_in (λ (z : Row). IsLayer z.1) (row ∷ rows) done.layers in
     let obey : (r : Row) → IsIn r (row ∷ rows) → Obeys conf characters r.1 = all_in (λ (z : Row). Obeys conf characters z.1) (row ∷ rows) done.obey in
     let whole : (r : Row) → IsIn r (row ∷ rows) → IsWhole r = λ r k. (layers r k, cohere conf characters r.1 (layers r k) (obey r k).well_formed) in
-    let counts : (r : Row) → IsIn r (row ∷ rows) → (kind : Kind) → length (counted_with r.1 kind) ≤ 10000 = λ r k. few_counted r.1 (layers r k) (obey r k).well_formed.room in
+    let counts : (r : Row) → IsIn r (row ∷ rows) → (kind : Kind) → length (counted_with r.1 kind) ≤ 10000 = λ r k. few_counted r.1 (layer_fits r.1 (layers r k)) (obey r k).well_formed.room in
     keeps row rows whole decided closed (few_in (row ∷ rows) decided done.few counts) conf characters obey
 
 pub break_three : Coheres → DecidedLayersBreakThree

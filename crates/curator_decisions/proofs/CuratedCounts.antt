@@ -20,7 +20,6 @@ use Rattle.layer_model.specs.declared.flaw.FlawPlace.TheVariants as at
 use Rattle.layer_model.specs.Annotations.{Annotations}
 use Rattle.layer_model.specs.Classes.{letter_place, rank}
 use Rattle.layer_model.specs.Layers.{IsLayer, mark_at, mark_of, numbers}
-use Rattle.layer_model.specs.Numbers.{NumbersFit}
 use Rattle.layer_model.specs.LayerIds.{ids_of_letter}
 use Rattle.layer_rules.specs.LayerRules.{counted_letter, counted_with, is_id, layer_full}
 use Rattle.layer_rules.specs.WellFormed.{Never, at_layer_full}
@@ -35,7 +34,7 @@ use Rattle.curator_decisions.specs.Decisions.{Decided, is_in, items_in}
 use Rattle.curator_decisions.proofs.CuratedItems.{count_firsts, is_less, left, right}
 use Rattle.curator_decisions.proofs.ListLemmas.{bit, count_append, count_cons, count_filter}
 use Rattle.curator_decisions.proofs.CuratedOwn.{count_map}
-use Rattle.curator_decisions.proofs.CuratedParts.{Row, has_key, so_none}
+use Rattle.curator_decisions.proofs.CuratedParts.{Row, has_key, has_marked, so_none}
 
 -- ---- what stands under a number of a letter
 
@@ -44,33 +43,48 @@ record IsFound (l : Annotations) (kind counted : Kind) (id : AnnId) : Type 0 whe
   there : mark_at l id ≡ Some mark
   together : counted_with l id.kind ≡ counted_with l counted
 
-found : {V : Type 0} (l : Annotations) (kind counted : Kind) (wrap : V → Mark) (m : finite.FinMap nat_cmp V) → ((n : ℕ) → mark_of l kind n ≡ option_map wrap (finite.get m n)) → NumbersFit m → counted_with l kind ≡ counted_with l counted
+-- the numbers of a layer are those of IDs
+abbrev pub NumbersOfIds : Annotations → Type 0
+NumbersOfIds l = (kind : Kind) (n : ℕ) (mark : Mark) → mark_of l kind n ≡ Some mark → n ≤ 999999999
+
+pub layer_fits : (l : Annotations) → IsLayer l → NumbersOfIds l
+layer_fits l is letter.Text n mark e = is.spans n (has_marked l letter.Text n mark e)
+layer_fits l is letter.Event n mark e = is.events n (has_marked l letter.Event n mark e)
+layer_fits l is letter.Relation n mark e = is.relations n (has_marked l letter.Relation n mark e)
+layer_fits l is letter.Attribute n mark e = is.attributes n (has_marked l letter.Attribute n mark e)
+layer_fits l is letter.Legacy n mark e = is.legacy n (has_marked l letter.Legacy n mark e)
+layer_fits l is letter.Normal n mark e = is.normals n (has_marked l letter.Normal n mark e)
+layer_fits l is letter.Note n mark e = is.notes n (has_marked l letter.Note n mark e)
+
+found : {V : Type 0} (l : Annotations) (kind counted : Kind) (wrap : V → Mark) (m : finite.FinMap nat_cmp V) → ((n : ℕ) → mark_of l kind n ≡ option_map wrap (finite.get m n)) → NumbersOfIds l → counted_with l kind ≡ counted_with l counted
     → (id : AnnId) → IsIn id (map (id_at kind) (finite.keys m)) → IsFound l kind counted id
 found {V} l kind counted wrap m same fits together id k =
     let r : (n : ℕ) × (IsIn n (finite.keys m) × (id ≡ id_at kind n)) = map-IsIn (id_at kind) id (finite.keys m) k in
     let there : finite.contains_key m r.0 ≡ true = has_key m r.0 r.1.0 in
-    let small : r.0 ≤ 999999999 = fits r.0 there in
-    let number : min r.0 999999999 ≡ r.0 = omega arith in
-    subst (IsFound l kind counted) (sym r.1.1) (by r.0 number (finite.get m r.0) refl there)
+    subst (IsFound l kind counted) (sym r.1.1) (by r.0 (finite.get m r.0) refl there)
   where
-    by : (n : ℕ) → min n 999999999 ≡ n → (o : Option V) → finite.get m n ≡ o → is_some (finite.get m n) ≡ true → IsFound l kind counted (id_at kind n)
-    by n number None e t = absurd (let f : false ≡ true = sym (ap is_some e) ∙ t in cc)
-    by n number (Some v) e t = record { mark = wrap v; there = ap (mark_of l kind) number ∙ same n ∙ ap (option_map wrap) e; together = together }
+    by : (n : ℕ) (o : Option V) → finite.get m n ≡ o → is_some (finite.get m n) ≡ true → IsFound l kind counted (id_at kind n)
+    by n None e t = absurd (let f : false ≡ true = sym (ap is_some e) ∙ t in cc)
+    by n (Some v) e t =
+        let is : mark_of l kind n ≡ Some (wrap v) = same n ∙ ap (option_map wrap) e in
+        let small : n ≤ 999999999 = fits kind n (wrap v) is in
+        let number : min n 999999999 ≡ n = omega arith in
+        record { mark = wrap v; there = ap (mark_of l kind) number ∙ is; together = together }
 
-any_found : (l : Annotations) → IsLayer l → (counted : Kind) (id : AnnId) → IsIn id (counted_with l counted) → IsFound l counted counted id ⊎ IsFound l letter.Legacy counted id ⊎ IsFound l letter.Attribute counted id
-any_found l is letter.Text id k = inl (found l letter.Text letter.Text marked.Span l.spans (λ n. refl) is.spans refl id k)
-any_found l is letter.Event id k = inl (found l letter.Event letter.Event marked.Event l.events (λ n. refl) is.events refl id k)
-any_found l is letter.Relation id k = inl (found l letter.Relation letter.Relation marked.Relation l.relations (λ n. refl) is.relations refl id k)
-any_found l is letter.Attribute id k = elim (IsIn-either id (ids_of_letter l letter.Attribute) (ids_of_letter l letter.Legacy) k) [
-  | inl a ↦ inl (found l letter.Attribute letter.Attribute marked.Attribute l.attributes (λ n. refl) is.attributes refl id a)
-  | inr b ↦ inr (inl (found l letter.Legacy letter.Attribute marked.Attribute l.legacy (λ n. refl) is.legacy refl id b))
+any_found : (l : Annotations) → NumbersOfIds l → (counted : Kind) (id : AnnId) → IsIn id (counted_with l counted) → IsFound l counted counted id ⊎ IsFound l letter.Legacy counted id ⊎ IsFound l letter.Attribute counted id
+any_found l fits letter.Text id k = inl (found l letter.Text letter.Text marked.Span l.spans (λ n. refl) fits refl id k)
+any_found l fits letter.Event id k = inl (found l letter.Event letter.Event marked.Event l.events (λ n. refl) fits refl id k)
+any_found l fits letter.Relation id k = inl (found l letter.Relation letter.Relation marked.Relation l.relations (λ n. refl) fits refl id k)
+any_found l fits letter.Attribute id k = elim (IsIn-either id (ids_of_letter l letter.Attribute) (ids_of_letter l letter.Legacy) k) [
+  | inl a ↦ inl (found l letter.Attribute letter.Attribute marked.Attribute l.attributes (λ n. refl) fits refl id a)
+  | inr b ↦ inr (inl (found l letter.Legacy letter.Attribute marked.Attribute l.legacy (λ n. refl) fits refl id b))
 ]
-any_found l is letter.Legacy id k = elim (IsIn-either id (ids_of_letter l letter.Attribute) (ids_of_letter l letter.Legacy) k) [
-  | inl a ↦ inr (inr (found l letter.Attribute letter.Legacy marked.Attribute l.attributes (λ n. refl) is.attributes refl id a))
-  | inr b ↦ inl (found l letter.Legacy letter.Legacy marked.Attribute l.legacy (λ n. refl) is.legacy refl id b)
+any_found l fits letter.Legacy id k = elim (IsIn-either id (ids_of_letter l letter.Attribute) (ids_of_letter l letter.Legacy) k) [
+  | inl a ↦ inr (inr (found l letter.Attribute letter.Legacy marked.Attribute l.attributes (λ n. refl) fits refl id a))
+  | inr b ↦ inl (found l letter.Legacy letter.Legacy marked.Attribute l.legacy (λ n. refl) fits refl id b)
 ]
-any_found l is letter.Normal id k = inl (found l letter.Normal letter.Normal marked.Normal l.normals (λ n. refl) is.normals refl id k)
-any_found l is letter.Note id k = inl (found l letter.Note letter.Note marked.Note l.notes (λ n. refl) is.notes refl id k)
+any_found l fits letter.Normal id k = inl (found l letter.Normal letter.Normal marked.Normal l.normals (λ n. refl) fits refl id k)
+any_found l fits letter.Note id k = inl (found l letter.Note letter.Note marked.Note l.notes (λ n. refl) fits refl id k)
 
 -- ---- a layer has at most 10,000 of each sort
 
@@ -88,10 +102,10 @@ full l nowhere kind counted id e f =
     (ap (λ ids. option_map_or (is_id id) (slice_get ids 10000) false) f.together ∙ ap (λ o. option_map_or (is_id id) o false) e ∙ eq-eqb (rank id) (rank id) refl)
     (sym (ap (option_and_then (layer_full l id)) f.there) ∙ nowhere (at.Mark id))
 
-pub few_counted : (l : Annotations) → IsLayer l → Never (at_layer_full l) → (kind : Kind) → length (counted_with l kind) ≤ 10000
-few_counted l is nowhere kind = elim (some_within (counted_with l kind) 10000 (slice_get (counted_with l kind) 10000) refl) [
+pub few_counted : (l : Annotations) → NumbersOfIds l → Never (at_layer_full l) → (kind : Kind) → length (counted_with l kind) ≤ 10000
+few_counted l fits nowhere kind = elim (some_within (counted_with l kind) 10000 (slice_get (counted_with l kind) 10000) refl) [
   | inl h ↦ h
-  | inr r ↦ absurd (elim (any_found l is kind r.0 r.1.0) [
+  | inr r ↦ absurd (elim (any_found l fits kind r.0 r.1.0) [
     | inl a ↦ full l nowhere kind kind r.0 r.1.1 a
     | inr b ↦ elim b [ inl m ↦ full l nowhere letter.Legacy kind r.0 r.1.1 m | inr m ↦ full l nowhere letter.Attribute kind r.0 r.1.1 m ]
   ])
@@ -119,7 +133,7 @@ count_ids place l =
     step : (kind : Kind) (ys : List AnnId) (rest : ℕ) → count_by (at_letter place) ys ≡ rest → count_by (at_letter place) (map (id_at kind) (numbers l kind) ++ ys) ≡ some_of place l kind + rest
     step kind ys rest e = count_append (at_letter place) (map (id_at kind) (numbers l kind)) ys ∙ (λ i. count_letter place kind (numbers l kind) i + e i)
 
-length_letters : (l : Annotations) (kind : Kind) → length (ids_of_letter l kind) ≡ length (numbers l kind)
+pub length_letters : (l : Annotations) (kind : Kind) → length (ids_of_letter l kind) ≡ length (numbers l kind)
 length_letters l kind = length_map (id_at kind) (numbers l kind)
 
 pub length_append : {X : Type 0} (xs ys : List X) → length (xs ++ ys) ≡ length xs + length ys

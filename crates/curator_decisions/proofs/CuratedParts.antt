@@ -187,7 +187,7 @@ has_key m n k = contains_key-keys m n ∙ in_any n (finite.keys m) k
 pub in_keys : {V : Type 0} (m : finite.FinMap nat_cmp V) (n : ℕ) → finite.contains_key m n ≡ true → IsIn n (finite.keys m)
 in_keys m n h = any_in n (finite.keys m) (sym (contains_key-keys m n) ∙ h)
 
-in_numbers : (l : Annotations) (kind : Kind) (n : ℕ) → has_number l kind n ≡ true → IsIn n (numbers l kind)
+pub in_numbers : (l : Annotations) (kind : Kind) (n : ℕ) → has_number l kind n ≡ true → IsIn n (numbers l kind)
 in_numbers l letter.Text n e = in_keys l.spans n e
 in_numbers l letter.Event n e = in_keys l.events n e
 in_numbers l letter.Relation n e = in_keys l.relations n e

@@ -102,6 +102,10 @@ module _ (rows : List Row) (all : (row : Row) → IsIn row rows → IsWhole row)
   stands_in : (e : AnnId × Mark) → IsIn e entries → mark_at layer e.0 ≡ Some e.1
   stands_in e k = with_classes_same (built no_marks entries) classes e.0.kind e.0.number ∙ put_stands entries no_marks entries_apart e k (entry_fits e (of_entry e k))
 
+  -- an item stands in the layer under its ID
+  pub stands_one : (one : Numbered) → IsIn one ones → (h : IsHeld rows 0 one.held) (m : HasNode h.row.1 one.held.id) → mark_at layer one.id ≡ Some (renamed (called h.row) m.mark)
+  stands_one one k h m = stands_in (one.id, renamed (called h.row) m.mark) (given_in (taken (readings rows) ones) ones one (one.id, renamed (called h.row) m.mark) k (taken_is one k h m.mark m.there))
+
   pub came : (kind : Kind) (n : ℕ) (mark : Mark) → mark_of layer kind n ≡ Some mark → Came entries kind n
   came kind n mark e = elim (put_by entries no_marks kind n mark (sym (with_classes_same (built no_marks entries) classes kind n) ∙ e)) [
     | inl none ↦ none_some (sym (nothing_there kind n) ∙ none)

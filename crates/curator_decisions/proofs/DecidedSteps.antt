@@ -60,7 +60,7 @@ found_is {X} p (y ∷ ys) x e =
       | false ↦ λ _ h. let r : IsIn x ys × (p x ≡ true) = found_is p ys x h in (inr r.0, r.1)
     ] refl e
 
-or_none : {X : Type 0} (a b : Option X) → option_or a b ≡ None → (a ≡ None) × (b ≡ None)
+pub or_none : {X : Type 0} (a b : Option X) → option_or a b ≡ None → (a ≡ None) × (b ≡ None)
 or_none (Some x) b e = none_some (sym e)
 or_none None b e = (refl, e)
 
@@ -119,7 +119,7 @@ holder_from (layer ∷ layers) n h k = elim (IsIn-either h (held_by n (contents 
 ]
 
 -- a holder has one content under an ID
-one_content : (layers : List Reading) (n : ℕ) (a b : Held) → IsIn a (held_from n (map contents layers)) → IsIn b (held_from n (map contents layers)) → a.holder ≡ b.holder → a.id ≡ b.id → a.content ≡ b.content
+pub one_content : (layers : List Reading) (n : ℕ) (a b : Held) → IsIn a (held_from n (map contents layers)) → IsIn b (held_from n (map contents layers)) → a.holder ≡ b.holder → a.id ≡ b.id → a.content ≡ b.content
 one_content [] n a b i j holder id = absurd i
 one_content (layer ∷ layers) n a b i j holder id =
     elim (IsIn-either a (held_by n (contents layer)) (held_from (suc n) (map contents layers)) i) [
@@ -183,7 +183,7 @@ module _ (conf : Configuration) (characters : ℕ) (layers : List Reading) (deci
   were_items : list_all (λ one. is_some (held_as layers one.0)) decided ≡ true
   were_items = items_are (list_all (λ one. is_some (held_as layers one.0)) decided) (or_none (item_fault layers decided) (option_or (needed (missing layers decided)) (layer_fault conf characters layers decided)) accepted).0
 
-  none_missing : missing layers decided ≡ None
+  pub none_missing : missing layers decided ≡ None
   none_missing =
       let rest : option_or (needed (missing layers decided)) (layer_fault conf characters layers decided) ≡ None =
       (or_none (item_fault layers decided) (option_or (needed (missing layers decided)) (layer_fault conf characters layers decided)) accepted).1 in
@@ -191,10 +191,10 @@ module _ (conf : Configuration) (characters : ℕ) (layers : List Reading) (deci
 
   -- the changed decisions have the verdicts of the old ones on all items but one
   module _ (changed : Decided) (others : (other : ItemId) → (item_rank item ≡ item_rank other → ⊥) → verdict_on other changed ≡ verdict_on other decided) (held : Held) (is : held_as layers item ≡ Some held) where
-    found : IsIn held (leaders layers) × ((item_rank (name_of held) == item_rank item) ≡ true)
+    pub found : IsIn held (leaders layers) × ((item_rank (name_of held) == item_rank item) ≡ true)
     found = found_is (λ h. item_rank (name_of h) == item_rank item) (leaders layers) held is
 
-    same_in : (x : Held) → IsIn x (leaders layers) → (x ≡ held) ⊎ (is_in layers changed x ≡ is_in layers decided x)
+    pub same_in : (x : Held) → IsIn x (leaders layers) → (x ≡ held) ⊎ (is_in layers changed x ≡ is_in layers decided x)
     same_in x k = elim (eqb_tells (item_rank item) (item_rank (name_of x))) [
       | inl p ↦ inl (one_leader layers x held k found.0 (sym p.1 ∙ sym (tests_same (item_rank (name_of held)) (item_rank item) found.1)))
       | inr p ↦ inr (ap (λ v. is_in_by v (in_each layers x.content)) (others (name_of x) p.1))

@@ -15,7 +15,7 @@ pub mod CuratedMarks
 pub mod UndecidedItems
 pub mod NumberedLemmas
 pub mod CuratedCounts
-pub mod UndecidedRenames
+pub mod UnanimousNames
 pub mod ClassLemmas
 pub mod UndecidedObeys
 pub mod UndecidedFaults
@@ -30,3 +30,6 @@ pub mod CuratedClasses
 pub mod CuratedRules
 pub mod BreaksThree
 pub mod UndecidedMissing
+pub mod CuratedRoom
+pub mod CuratedClashes
+pub mod ItemSteps

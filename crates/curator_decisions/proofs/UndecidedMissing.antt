@@ -21,7 +21,7 @@ use Rattle.curator_decisions.proofs.UndecidedItems.{IsChosen, are_chosen, items_
 use Rattle.curator_decisions.proofs.ListLemmas.{filter_in}
 use Rattle.curator_decisions.proofs.CuratedParts.{find_none, not_both}
 use Rattle.curator_decisions.proofs.CuratedNames.{HasNode, IsWhole, has_node, node_is}
-use Rattle.curator_decisions.proofs.UndecidedRenames.{names_each}
+use Rattle.curator_decisions.proofs.UnanimousNames.{names_each}
 
 module _ (first : Annotations) (rows : List (List ℕ × Annotations)) (is : IsLayer first) (whole : IsCoherent first) (all : (row : List ℕ × Annotations) → IsIn row rows → IsWhole row) where
   abbrev all_layers : List Reading

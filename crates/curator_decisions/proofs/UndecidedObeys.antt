@@ -1,5 +1,5 @@
 -- With no decisions each item is an annotation of the first layer, so that the curated layer keeps the other three rules too.
-use Rattle.std.proofs.Common.{◌≡◌, ℕ, zero, suc, ◌+◌, ◌*◌, ◌<◌, ◌≤◌, ◌==◌, ◌&&◌, nat_lt, eq-eqb, ne_eqb, eqb-true, true, false, List, [], ◌∷◌, ◌++◌, map, length, slice_get, refl, sym, ◌∙◌, ap, subst, inl, inr, Option, Some, None, arith}
+use Rattle.std.proofs.Common.{◌≡◌, ℕ, ◌+◌, ◌*◌, ◌<◌, ◌≤◌, ◌==◌, ◌&&◌, nat_lt, eqb-true, true, false, List, [], ◌∷◌, map, length, refl, sym, ◌∙◌, ap, subst, inl, inr, Option, Some, None, arith}
 use Rattle.std.proofs.lemmas.Bool.{lt-ltb}
 use Rattle.std.proofs.lemmas.Option.{same_Some}
 use Rattle.std.specs.Option.{option_map, option_map_or, option_and_then}
@@ -11,21 +11,19 @@ use Rattle.std.specs.FinMap as finite
 use Rattle.mark_base.specs.declared.ann_id.AnnId.{AnnId}
 use Rattle.mark_base.specs.declared.ann_id.Kind.{Kind}
 use Rattle.mark_base.specs.declared.ann_id.Kind.TheVariants as letter
-use Rattle.mark_base.specs.ReadIds.{id_at}
 use Rattle.conf_model.specs.Configurations.{Configuration}
 use Rattle.layer_model.specs.declared.attribute.Attribute.{Attribute}
 use Rattle.layer_model.specs.declared.class.Class.{Class}
 use Rattle.layer_model.specs.declared.mark.Mark.{Mark}
 use Rattle.layer_model.specs.declared.mark.Mark.TheVariants as marked
-use Rattle.layer_model.specs.declared.rule.Rule.TheVariants.{AttributeThere, LayerFull, OverlapRefused}
+use Rattle.layer_model.specs.declared.rule.Rule.TheVariants.{AttributeThere, OverlapRefused}
 use Rattle.layer_model.specs.declared.flaw.FlawPlace.TheVariants as at
 use Rattle.layer_model.specs.Annotations.{Annotations}
 use Rattle.layer_model.specs.Classes.{letter_place, rank}
 use Rattle.layer_model.specs.Coherent.{LettersFitIn, is_attributed_letter, named}
 use Rattle.layer_model.specs.Layers.{IsLayer, attribute_of, mark_at, mark_of}
 use Rattle.layer_model.specs.LayerIds.{ids_of}
-use Rattle.layer_rules.specs.MarkRules.{where_so}
-use Rattle.layer_rules.specs.LayerRules.{classes_full, counted_letter, counted_with, is_id, layer_full, lower_pair, overlap_refused, refused_overlap, same_attributes}
+use Rattle.layer_rules.specs.LayerRules.{counted_with, lower_pair, overlap_refused, refused_overlap, same_attributes}
 use Rattle.layer_rules.specs.WellFormed.{Never, Obeys, at_attribute_there, at_layer_full, at_overlap_refused}
 use Rattle.content_keys.specs.Nodes.{IsIn}
 use Rattle.content_keys.specs.LayerContents.{node_of}
@@ -35,54 +33,28 @@ use Rattle.content_keys.proofs.OneLemmas.{one_of_content}
 use Rattle.unanimous_merge.specs.Items.{Held, firsts}
 use Rattle.unanimous_merge.specs.Readings.{Reading, reading_of, readings}
 use Rattle.unanimous_merge.specs.Unanimous.{in_each}
-use Rattle.unanimous_merge.proofs.ListLemmas.{all_cons, all_none, length_map}
+use Rattle.unanimous_merge.proofs.ListLemmas.{all_cons, all_none}
 use Rattle.curator_decisions.specs.Curated.{Numbered, count_of_letter, curated, curated_letter, letter_of_item, rename_in, renamed}
 use Rattle.curator_decisions.specs.Decisions.{items_in}
 use Rattle.curator_decisions.specs.DecisionFaults.{missing}
 use Rattle.curator_decisions.specs.Undecided.{UndecidedLayersObey}
 use Rattle.curator_decisions.proofs.BreaksThree.{Coheres, all_in}
 use Rattle.curator_decisions.proofs.CuratedAlike.{letter_fits, letter_of_mark}
-use Rattle.curator_decisions.proofs.CuratedClasses.{Within, class_from, classes, first_reading, made, up}
-use Rattle.curator_decisions.proofs.CuratedCounts.{at_letter, few_counted, few_ids, few_keys, length_append}
+use Rattle.curator_decisions.proofs.CuratedClasses.{Within, classes, first_reading, made, up}
+use Rattle.curator_decisions.proofs.CuratedCounts.{layer_fits, at_letter, few_counted, few_ids}
 use Rattle.curator_decisions.proofs.CuratedItems.{count_firsts}
-use Rattle.curator_decisions.proofs.CuratedMarks.{Came, got, no_legacy, none_in, stands_fit}
+use Rattle.curator_decisions.proofs.CuratedMarks.{stands_fit}
 use Rattle.curator_decisions.proofs.CuratedNames.{HasNode, IsWhole, Known, items, known_named, names_of, new, new_item, node_is, same_content, some_of}
 use Rattle.curator_decisions.proofs.CuratedOwn.{count_map}
 use Rattle.curator_decisions.proofs.CuratedPairs.{both_true, pairs_never}
-use Rattle.curator_decisions.proofs.CuratedParts.{ClassOrigin, Row, in_ids, none_found, none_some, not_both, so_none, unmapped}
+use Rattle.curator_decisions.proofs.CuratedParts.{Row, in_ids, none_found, none_some, not_both, unmapped}
+use Rattle.curator_decisions.proofs.CuratedRoom.{room}
 use Rattle.curator_decisions.proofs.CuratedRules.{keeps, suffice}
-use Rattle.curator_decisions.proofs.CuratedTaken.{IsEntry, came, entries, entry_at, of_entry}
+use Rattle.curator_decisions.proofs.CuratedTaken.{IsEntry, entry_at}
 use Rattle.curator_decisions.proofs.UndecidedItems.{IsChosen, are_chosen, chosen, items_are, layers, own}
 use Rattle.curator_decisions.proofs.ListLemmas.{count_filter}
 use Rattle.curator_decisions.proofs.UndecidedMissing.{nothing_missing}
-use Rattle.curator_decisions.proofs.NumberedLemmas.{letter_kept, number_within, numbered_is}
-
--- ---- lists and classes by their lengths
-
-past : {X : Type 0} (xs : List X) (i : ℕ) → length xs ≤ i → slice_get xs i ≡ None
-past [] i h = refl
-past (x ∷ xs) zero h = absurd (omega arith)
-past (x ∷ xs) (suc i) h = past xs i (omega arith)
-
-within : {X : Type 0} (xs : List X) (i : ℕ) (x : X) → slice_get xs i ≡ Some x → i < length xs
-within [] i x e = none_some e
-within (y ∷ ys) zero x e = omega arith
-within (y ∷ ys) (suc i) x e = let h : i < length ys = within ys i x e in omega arith
-
-equal : (n : ℕ) → (n == n) ≡ true
-equal n = eq-eqb n n refl
-
-few_classes : (first : Annotations) → Never (at_layer_full first) → length first.classes ≤ 10000
-few_classes first nowhere = split (slice_get first.classes 10000) refl
-  where
-    split : (o : Option Class) → slice_get first.classes 10000 ≡ o → length first.classes ≤ 10000
-    split None e = short first.classes 10000 e
-      where
-        short : (cs : List Class) (i : ℕ) → slice_get cs i ≡ None → length cs ≤ i
-        short [] i h = omega arith
-        short (c ∷ cs) zero h = none_some (sym h)
-        short (c ∷ cs) (suc i) h = let r : length cs ≤ i = short cs i h in omega arith
-    split (Some class) e = absurd (so_none (10000 == 10000) (LayerFull letter.Text) (equal 10000) (sym (ap (option_and_then (classes_full 10000)) e) ∙ nowhere (at.Class 10000)))
+use Rattle.curator_decisions.proofs.NumberedLemmas.{numbered_is}
 
 -- ---- attributes and spans
 
@@ -165,7 +137,7 @@ module _ (first : Row) (rest : List Row) (all : (row : Row) → IsIn row (first 
   closed = nothing_missing first.1 rest whole.0 whole.1 (λ row k. all row (inr k))
 
   few_ten : (kind : Kind) → count_of_letter kind (items_in (readings rows) []) ≤ 10000
-  few_ten = few_chosen first.1 (readings rest) (few_counted first.1 whole.0 (obey first (inl refl)).well_formed.room)
+  few_ten = few_chosen first.1 (readings rest) (few_counted first.1 (layer_fits first.1 whole.0) (obey first (inl refl)).well_formed.room)
 
   few : (kind : Kind) → count_of_letter kind (items_in (readings rows) []) ≤ 999999999
   few kind = let f : count_of_letter kind (items_in (readings rows) []) ≤ 10000 = few_ten kind in omega arith
@@ -283,69 +255,11 @@ module _ (first : Row) (rest : List Row) (all : (row : Row) → IsIn row (first 
       let refused : refused_overlap conf i.was j.was ≡ false = sym (λ k. lt-ltb (rank j.one.held.id) (rank i.one.held.id) down k && option_map_or (refused_overlap conf i.was) (j.there k) false) ∙ test in
       not_both (refused_overlap conf i.was j.was) s.refused refused)
 
-  -- ---- there is room
-
-  small : (kind : Kind) (n : ℕ) (mark : Mark) → mark_of layer kind n ≡ Some mark → (0 < n) × (n ≤ 10000)
-  small kind n mark e =
-      let c : Came (entries rows all [] closed few cs) kind n = came rows all [] closed few cs kind n mark e in
-      let i : IsEntry rows all [] closed few cs c.entry = of_entry rows all [] closed few cs c.entry c.among in
-      let number : n ≡ i.one.id.number = c.number_is ∙ ap (λ (w : AnnId × Mark). w.0.number) i.same in
-      let w : (0 < i.one.id.number) × (i.one.id.number ≤ 10000) = number_within (items_in (readings rows) []) i.one i.among few_ten in
-      (omega (arith, w.0, number), omega (arith, w.1, number))
-
-  of_map : {V : Type 0} (kind : Kind) (wrap : V → Mark) (m : finite.FinMap nat_cmp V) → ((n : ℕ) → mark_of layer kind n ≡ option_map wrap (finite.get m n)) → length (map (id_at kind) (finite.keys m)) ≤ 10000
-  of_map kind wrap m same =
-      let r : length (finite.keys m) ≤ 10000 = few_keys m (λ n k. let g : (mark : Mark) × (option_map wrap (finite.get m n) ≡ Some mark) = got m wrap n k in small kind n g.0 (same n ∙ g.1)) in
-      omega (arith, r, length_map (id_at kind) (finite.keys m))
-
-  none_legacy : length (map (id_at letter.Legacy) (finite.keys layer.legacy)) ≡ 0
-  none_legacy =
-      length_map (id_at letter.Legacy) (finite.keys layer.legacy) ∙ none_in (finite.keys layer.legacy) (λ n k.
-      let g : (mark : Mark) × (option_map marked.Attribute (finite.get layer.legacy n) ≡ Some mark) = got layer.legacy marked.Attribute n k in
-      let c : Came (entries rows all [] closed few cs) letter.Legacy n = came rows all [] closed few cs letter.Legacy n g.0 g.1 in
-      let i : IsEntry rows all [] closed few cs c.entry = of_entry rows all [] closed few cs c.entry c.among in
-      no_legacy i.one.held.id.kind (sym (letter_kept [] (items_in (readings rows) []) i.one i.among) ∙ sym (ap (λ (w : AnnId × Mark). w.0.kind) i.same) ∙ sym c.kind_is))
-
-  few_attributes : length (map (id_at letter.Attribute) (finite.keys layer.attributes) ++ map (id_at letter.Legacy) (finite.keys layer.legacy)) ≤ 10000
-  few_attributes =
-      let a : length (map (id_at letter.Attribute) (finite.keys layer.attributes)) ≤ 10000 = of_map letter.Attribute marked.Attribute layer.attributes (λ n. refl) in
-      omega (arith, a, none_legacy, length_append (map (id_at letter.Attribute) (finite.keys layer.attributes)) (map (id_at letter.Legacy) (finite.keys layer.legacy)))
-
-  few_here : (kind : Kind) → length (counted_with layer kind) ≤ 10000
-  few_here letter.Text = of_map letter.Text marked.Span layer.spans (λ n. refl)
-  few_here letter.Event = of_map letter.Event marked.Event layer.events (λ n. refl)
-  few_here letter.Relation = of_map letter.Relation marked.Relation layer.relations (λ n. refl)
-  few_here letter.Attribute = few_attributes
-  few_here letter.Legacy = few_attributes
-  few_here letter.Normal = of_map letter.Normal marked.Normal layer.normals (λ n. refl)
-  few_here letter.Note = of_map letter.Note marked.Note layer.notes (λ n. refl)
-
-  -- a layer with at most 10,000 of each sort has room
-  room : Never (at_layer_full layer)
-  room place = go place
-    where
-      go : Never (at_layer_full layer)
-      go (at.Mark id) = split _
-        where
-          split : (o : Option Mark) → option_and_then (layer_full layer id) o ≡ None
-          split None = refl
-          split (Some mark) = ap (λ o. where_so (option_map_or (is_id id) o false) (LayerFull (counted_letter id.kind))) (past (counted_with layer id.kind) 10000 (few_here id.kind))
-      go (at.Class index) = split (slice_get layer.classes index) refl
-        where
-          split : (o : Option Class) → slice_get layer.classes index ≡ o → option_and_then (classes_full index) (slice_get layer.classes index) ≡ None
-          split None e = ap (option_and_then (classes_full index)) e
-          split (Some class) e =
-              let o : ClassOrigin rows In called index class = class_from first rest all [] closed few index class e in
-              let small : o.place < length o.row.1.classes = within o.row.1.classes o.place o.was o.there in
-              let all : length o.row.1.classes ≤ 10000 = few_classes o.row.1 (obey o.row o.among).well_formed.room in
-              let low : index ≤ o.place = o.low in
-              ap (option_and_then (classes_full index)) e ∙ ap (λ b. where_so b (LayerFull letter.Text)) (ne_eqb index 10000 (λ s. omega arith))
-
   pub obeys : Obeys conf characters (curated (readings rows) [])
   obeys =
       suffice conf characters (curated (readings rows) []) (keeps first rest all [] closed few conf characters obey)
       (all_cons Never (at_attribute_there layer) (at_overlap_refused conf layer ∷ at_layer_full layer ∷ []) attributes
-      (all_cons Never (at_overlap_refused conf layer) (at_layer_full layer ∷ []) overlaps (all_cons Never (at_layer_full layer) [] room (all_none Never))))
+      (all_cons Never (at_overlap_refused conf layer) (at_layer_full layer ∷ []) overlaps (all_cons Never (at_layer_full layer) [] (room first rest all [] closed few conf characters obey few_ten) (all_none Never))))
 
 -- ---- the law
 

@@ -7,3 +7,5 @@ pub mod DecisionFaults
 pub mod Undecided
 pub mod DecidedLaws
 pub mod CuratedLaws
+pub mod Clashes
+pub mod WorkedClashes

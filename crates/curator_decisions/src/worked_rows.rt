@@ -1,14 +1,18 @@
 //! The definitions at work on a small snapshot. The functions do nothing; their clauses are computed when the
 //! crate is checked.
-ghost use Rattle.std.specs.Prelude.{◌≡◌, ℕ, [], ◌∷◌, Some};
+ghost use Rattle.std.specs.Prelude.{◌≡◌, ℕ, [], ◌∷◌, Some, true, false};
+ghost use Rattle.mark_base.specs.declared.ann_id.Kind.TheVariants as letter;
+ghost use Rattle.mark_base.specs.ReadIds.{id_at};
 ghost use Rattle.conf_model.specs.Configurations.{Configuration};
 ghost use Rattle.content_keys.specs.WorkedLayers.{arg, e, event, span, t};
 ghost use Rattle.unanimous_merge.specs.WorkedSnapshots.{both, name};
 ghost use Rattle.curator_decisions.specs.declared.decision_fault.DecisionFault.TheVariants as no;
 ghost use Rattle.curator_decisions.specs.declared.verdict.Verdict.TheVariants.{Accept, Reject};
+ghost use Rattle.curator_decisions.specs.Clashes.{clash};
 ghost use Rattle.curator_decisions.specs.Curated.{curated_of};
 ghost use Rattle.curator_decisions.specs.DecisionFaults.{decide_fault, undecide_fault};
 ghost use Rattle.curator_decisions.specs.Decisions.{with_verdict};
+ghost use Rattle.curator_decisions.specs.WorkedClashes.{held, two_values};
 
 /// What ann and bob have on 'Ann met Bob in Rome' once nothing is decided, and once bob's location is accepted and
 /// the meeting of both rejected.
@@ -27,4 +31,11 @@ pub fn examples_of_decisions()
     ensures no_item { (conf : Configuration) (characters : ℕ) → decide_fault conf characters both [] (name 2 (t 1)) Accept ≡ Some no.NoItem }
     // Under bob's ID the meeting is no item, since ann has it too.
     ensures not_the_first { (conf : Configuration) (characters : ℕ) → decide_fault conf characters both [] (name 1 (t 1)) Accept ≡ Some no.NoItem }
+{}
+
+/// Two values of one attribute on one name, of two holders, clash, whatever the configuration; the value and the
+/// name do not.
+pub fn examples_of_clashes()
+    ensures two_values { (conf : Configuration) → clash conf two_values (held 0 (id_at letter.Attribute 1)) (held 1 (id_at letter.Attribute 1)) ≡ true }
+    ensures value_and_name { (conf : Configuration) → clash conf two_values (held 0 (t 1)) (held 0 (id_at letter.Attribute 1)) ≡ false }
 {}
