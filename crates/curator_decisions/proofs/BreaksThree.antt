@@ -10,7 +10,7 @@ use Rattle.layer_model.specs.Annotations.{Annotations}
 use Rattle.layer_model.specs.Coherent.{IsCoherent}
 use Rattle.layer_model.specs.Layers.{IsLayer}
 use Rattle.layer_rules.specs.LayerRules.{counted_with}
-use Rattle.layer_rules.specs.WellFormed.{IsWellFormed, Obeys}
+use Rattle.layer_rules.specs.WellFormed.{IsWellFormed, Obeys, least_flaw}
 use Rattle.content_keys.specs.Nodes.{IsIn}
 use Rattle.unanimous_merge.specs.Items.{Held}
 use Rattle.unanimous_merge.specs.Readings.{readings}
@@ -33,6 +33,10 @@ use Rattle.curator_decisions.proofs.DecidedVerdicts.{set_others, taken_others}
 -- a well-formed layer is coherent
 abbrev pub Coheres : Type 0
 Coheres = (conf : Configuration) (characters : ℕ) (layer : Annotations) → IsLayer layer → IsWellFormed conf characters layer → IsCoherent layer
+
+-- a well-formed layer has no least flaw
+abbrev pub Unflawed : Type 0
+Unflawed = (conf : Configuration) (characters : ℕ) (layer : Annotations) → IsWellFormed conf characters layer → least_flaw conf characters layer ≡ None
 
 pub all_in : {X : Type 0} (P : X → Type 0) (xs : List X) → All P xs → (x : X) → IsIn x xs → P x
 all_in P [] h x k = absurd k

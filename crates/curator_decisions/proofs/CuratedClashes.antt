@@ -75,7 +75,7 @@ pairs_numbered R before (x ∷ xs) h = (
 )
 
 -- an annotation that makes a pair with a lower one breaks the rule
-pair_breaks : (layer : Annotations) (pairs : Mark → Mark → Bool) (rule : AnnId → Rule) → Never (by_place (λ id mark. option_map rule (lower_pair pairs layer id mark)) no_class layer)
+pub pair_breaks : (layer : Annotations) (pairs : Mark → Mark → Bool) (rule : AnnId → Rule) → Never (by_place (λ id mark. option_map rule (lower_pair pairs layer id mark)) no_class layer)
     → (id other : AnnId) (mark m : Mark) → mark_at layer id ≡ Some mark → mark_at layer other ≡ Some m → rank other < rank id → pairs mark m ≡ true → ⊥
 pair_breaks layer pairs rule never id other mark m e f low so =
     let nowhere : option_map rule (lower_pair pairs layer id mark) ≡ None = sym (ap (option_and_then (λ mark. option_map rule (lower_pair pairs layer id mark))) e) ∙ never (at.Mark id) in
@@ -86,12 +86,12 @@ pair_breaks layer pairs rule never id other mark m e f low so =
 -- ---- two marks
 
 -- two attributes of one type
-record AreAttributes (a b : Mark) : Type 0 where
-  one : Attribute
-  two : Attribute
-  first : a ≡ marked.Attribute one
-  second : b ≡ marked.Attribute two
-  kind : one.kind.n ≡ two.kind.n
+pub record AreAttributes (a b : Mark) : Type 0 where
+  pub one : Attribute
+  pub two : Attribute
+  pub first : a ≡ marked.Attribute one
+  pub second : b ≡ marked.Attribute two
+  pub kind : one.kind.n ≡ two.kind.n
 
 attributes_are : (f g : AnnId → AnnId) (a b : Mark) → same_attributes (renamed f a) (renamed g b) ≡ true → (r : AreAttributes a b) × (rank (f r.one.target) ≡ rank (g r.two.target))
 attributes_are f g (marked.Attribute a) (marked.Attribute b) h =
@@ -100,7 +100,7 @@ attributes_are f g (marked.Attribute a) (marked.Attribute b) h =
 attributes_are f g (marked.Attribute a) b h = absurd (let e : false ≡ true = h in cc)
 attributes_are f g a b h = absurd (let e : false ≡ true = h in cc)
 
-rivals_are : (c d : AnnId → ℕ) (a b : Mark) → are_rivals c d a b ≡ true → (r : AreAttributes a b) × (c r.one.target ≡ d r.two.target)
+pub rivals_are : (c d : AnnId → ℕ) (a b : Mark) → are_rivals c d a b ≡ true → (r : AreAttributes a b) × (c r.one.target ≡ d r.two.target)
 rivals_are c d (marked.Attribute a) (marked.Attribute b) h =
     let two : ((a.kind.n == b.kind.n) ≡ true) × ((c a.target == d b.target) ≡ true) = both_true (a.kind.n == b.kind.n) (c a.target == d b.target) h in
     (record { one = a; two = b; first = refl; second = refl; kind = eqb-true _ _ two.0 }, eqb-true _ _ two.1)
@@ -121,7 +121,7 @@ overlap_letters conf a b h = absurd (let e : false ≡ true = h in cc)
 attribute_letters : (a b : Mark) → AreAttributes a b → letter_of_mark a ≡ letter_of_mark b
 attribute_letters a b r = ap letter_of_mark r.first ∙ sym (ap letter_of_mark r.second)
 
-either_so : {A : Type 0} (a b : Bool) → (a || b) ≡ true → (a ≡ true → A) → (b ≡ true → A) → A
+pub either_so : {A : Type 0} (a b : Bool) → (a || b) ≡ true → (a ≡ true → A) → (b ≡ true → A) → A
 either_so true b e f g = f refl
 either_so false b e f g = g e
 

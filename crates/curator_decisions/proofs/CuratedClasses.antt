@@ -25,7 +25,7 @@ use Rattle.content_keys.proofs.OneLemmas.{one_of_content}
 use Rattle.unanimous_merge.specs.Items.{Held, held_by, held_from}
 use Rattle.unanimous_merge.specs.Readings.{Reading, content_under, contents, reading_of, readings}
 use Rattle.unanimous_merge.specs.Unanimous.{class_in_each}
-use Rattle.curator_decisions.specs.Curated.{Numbered, all_new, class_taken, count_of_letter, curated, curated_letter, letter_of_item, new_id}
+use Rattle.curator_decisions.specs.Curated.{Numbered, all_new, class_taken, count_of_letter, curated_letter, letter_of_item, new_id}
 use Rattle.curator_decisions.specs.DecisionFaults.{missing}
 use Rattle.curator_decisions.specs.Decisions.{Decided, items_in}
 use Rattle.curator_decisions.proofs.CuratedItems.{Earlier, IsHeld, firsts_lead, held_rise}
@@ -290,6 +290,3 @@ module _ (first : Row) (rest : List Row) (all : (row : Row) → IsIn row (first 
 
   pub made_part : IsPart rows made (Known rows all decided closed few) (new rows all decided closed few)
   made_part = part rows all decided closed few classes class_from
-
-  pub made_is : curated (readings rows) decided ≡ made
-  made_is = refl

@@ -22,7 +22,7 @@ use Rattle.curator_decisions.specs.Curated.{count_of_letter, curated, letter_of_
 use Rattle.curator_decisions.specs.CuratedLaws.{AreFinished}
 use Rattle.curator_decisions.specs.DecisionFaults.{decision_fault, first_broken, item_fault, layer_fault, missing, needed}
 use Rattle.curator_decisions.specs.Decisions.{Decided, is_in, item_rank, items_in, with_verdict, without_verdict}
-use Rattle.curator_decisions.proofs.BreaksThree.{Coheres, all_in}
+use Rattle.curator_decisions.proofs.BreaksThree.{Coheres, Unflawed, all_in}
 use Rattle.curator_decisions.proofs.CuratedClashes.{all_of, all_pairs, obeying_together, pairs_all, together_obey}
 use Rattle.curator_decisions.proofs.CuratedCounts.{few_counted, few_in, layer_fits}
 use Rattle.curator_decisions.proofs.CuratedItems.{Differ, Earlier, firsts_differ, firsts_keep, held_rise, in_firsts}
@@ -31,7 +31,6 @@ use Rattle.curator_decisions.proofs.CuratedParts.{Row, not_both, unmapped}
 use Rattle.curator_decisions.proofs.DecidedSteps.{found, none_missing, nothing_lacks, one_content, or_none, same_in}
 use Rattle.curator_decisions.proofs.DecidedVerdicts.{set_others, taken_others}
 use Rattle.curator_decisions.proofs.ListLemmas.{Pairs, bit, count_cons, filter_in, in_filter, pairs_both, pairs_filter, pairs_more, two_of}
-use Rattle.curator_decisions.proofs.UndecidedFaults.{Unflawed}
 
 -- ---- items are in the order of their ranks
 
@@ -47,10 +46,10 @@ place_small letter.Note = omega arith
 rank_small : (id : AnnId) → rank id < 7000000000
 rank_small id = let p : letter_place id.kind ≤ 6 = place_small id.kind in let w : id.number ≤ 999999999 = id.within in omega arith
 
-abbrev Before : Held → Held → Type 0
+abbrev pub Before : Held → Held → Type 0
 Before a b = item_rank (name_of a) < item_rank (name_of b)
 
-leaders_rise : (rows : List Row) → Pairs Before (leaders (readings rows))
+pub leaders_rise : (rows : List Row) → Pairs Before (leaders (readings rows))
 leaders_rise rows =
     pairs_more (λ a b. Earlier a b × Differ a b) Before (leaders (readings rows)) (λ a b i j h. before a b i j h.0 h.1)
     (pairs_both Earlier Differ (leaders (readings rows)) (firsts_keep Earlier (held_from 0 (map contents (readings rows))) (held_rise rows 0)) (firsts_differ (held_from 0 (map contents (readings rows)))))

@@ -1,10 +1,9 @@
 -- No decisions at all are accepted: what is in names only what is in, and the curated layer obeys.
 use Rattle.std.proofs.Common.{◌≡◌, ℕ, List, [], ◌∷◌, None, arith}
 use Rattle.std.specs.Option.{option_map, option_or}
-use Rattle.conf_model.specs.Configurations.{Configuration}
 use Rattle.layer_model.specs.Annotations.{Annotations}
 use Rattle.layer_model.specs.Layers.{IsLayer}
-use Rattle.layer_rules.specs.WellFormed.{IsWellFormed, Obeys, least_flaw}
+use Rattle.layer_rules.specs.WellFormed.{Obeys, least_flaw}
 use Rattle.content_keys.specs.Nodes.{IsIn}
 use Rattle.unanimous_merge.specs.Readings.{readings}
 use Rattle.unanimous_merge.proofs.ListLemmas.{all_head, all_tail}
@@ -12,14 +11,10 @@ use Rattle.curator_decisions.specs.declared.decision_fault.DecisionFault.TheVari
 use Rattle.curator_decisions.specs.Curated.{curated}
 use Rattle.curator_decisions.specs.DecisionFaults.{first_broken, needed}
 use Rattle.curator_decisions.specs.Undecided.{UndecidedLayersAreAccepted}
-use Rattle.curator_decisions.proofs.BreaksThree.{Coheres, all_in}
+use Rattle.curator_decisions.proofs.BreaksThree.{Coheres, Unflawed, all_in}
 use Rattle.curator_decisions.proofs.UndecidedMissing.{nothing_missing}
 use Rattle.curator_decisions.proofs.UndecidedObeys.{undecided_obey}
 use Rattle.curator_decisions.proofs.CuratedNames.{IsWhole}
-
--- a well-formed layer has no least flaw
-abbrev pub Unflawed : Type 0
-Unflawed = (conf : Configuration) (characters : ℕ) (layer : Annotations) → IsWellFormed conf characters layer → least_flaw conf characters layer ≡ None
 
 pub undecided_accepted : Coheres → Unflawed → UndecidedLayersAreAccepted
 undecided_accepted cohere unflawed conf characters [] some layers_ obey = absurd (omega arith)
