@@ -146,6 +146,25 @@ pub(crate) fn replay_forward(
     Ok(backs)
 }
 
+/// Carries these commands out in turn, where the first has this index, and keeps no way back. Cost: as that
+/// many commands.
+pub(crate) fn replay_on(work: &mut Work, at: u32, commands: &[Command]) -> Result<(), DeskStart>
+    requires { at + length commands.now ≤ 4294967295 }
+    ensures done { OnOk result (replay_from work.old.conf (length work.old.text) at work.old.layer commands.now ≡ Ok work.new.layer) }
+    ensures stopped { IfErr result (IsStop (replay_from work.old.conf (length work.old.text) at work.old.layer commands.now)) }
+    ensures conf { work.new.conf ≡ work.old.conf }
+    ensures text { work.new.text ≡ work.old.text }
+{
+    let mut index = at;
+    let mut left = commands;
+    while let [command, rest @ ..] = left {
+        carry_out(work, index, command)?;
+        index += 1;
+        left = rest;
+    }
+    Ok(())
+}
+
 /// Carries these commands out from the last to the first, where the last has this index. Cost: as that
 /// many commands.
 pub(crate) fn replay_back(work: &mut Work, at: u32, commands: &[Command]) -> Result<(), DeskStart>

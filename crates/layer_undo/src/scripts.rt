@@ -6,7 +6,7 @@ ghost use Rattle.layer_undo.specs.Replays.{first_refusal, replay_from};
 ghost use Rattle.layer_undo.specs.Starts.{IsDeskStart, IsStop};
 ghost use Rattle.layer_undo.specs.Trails.{IsKept, IsTrail};
 
-use crate::replay::{open_copy, reopen, replay_back, replay_forward};
+use crate::replay::{open_copy, reopen, replay_back, replay_forward, replay_on};
 use crate::{DeskStart, Script};
 use char_documents::Doc;
 use conf_model::Conf;
@@ -101,8 +101,21 @@ pub(crate) fn try_scripts(
     Ok(Tried { work, backs })
 }
 
+/// Carries the commands of two scripts out in turn on a work, done and then undone from its end, and keeps
+/// no way back.
+fn carry_both(work: &mut Work, done: &[Command], undone: &[Command]) -> Result<(), DeskStart>
+    requires { length done.now + length undone.now ≤ 4096 }
+    ensures accepted { OnOk result (IsOk (replay_from work.old.conf (length work.old.text) 0 work.old.layer (done.now ++ reverse undone.now))) }
+    ensures stopped { IfErr result (IsStop (replay_from work.old.conf (length work.old.text) 0 work.old.layer (done.now ++ reverse undone.now))) }
+{
+    replay_on(work, 0, done)?;
+    replay_back(work, done.len() as u32, undone)?;
+    Ok(())
+}
+
 /// Tries two scripts on a layer, as [`Desk::open`](crate::Desk::open) does, and keeps nothing. Cost: a
-/// copy and a check of the base, and then as much as the commands of both scripts cost.
+/// copy and a check of the base, and then as much as the commands of both scripts cost; in memory the copy
+/// and what one command takes.
 pub fn check_scripts(
     alloc: Global,
     base: &Layer,
@@ -115,6 +128,10 @@ pub fn check_scripts(
     ensures accepted { OnOk result (first_refusal (arc_value conf.now) (length (arc_value doc.now)) base.now done.now undone.now ≡ None) }
     ensures refused { IfErr result (IsDeskStart (arc_value conf.now) (length (arc_value doc.now)) base.now done.now undone.now) }
 {
-    try_scripts(alloc, base, doc, conf, done.items(), undone.items())?;
-    Ok(())
+    let mut work = open_copy(alloc, base, doc, conf)?;
+    let _layer = work.layer();
+    if are_too_many(done.items(), undone.items()) {
+        return Err(DeskStart::At(MOST_COMMANDS as u32, Rule::DeskFull));
+    }
+    carry_both(&mut work, done.items(), undone.items())
 }
