@@ -1,0 +1,4 @@
+pub mod ProgressTable
+pub mod SnapshotsTable
+pub mod WorkedStates
+pub mod WrittenRows

@@ -1,0 +1,27 @@
+//! What a team looks up of a project: who is done, and how far curation is, as CSV.
+//!
+//! [`progress_csv`] writes a row for each document and annotator, and [`snapshots_csv`] one for each snapshot, of a
+//! project as a program keeps it:
+//!
+//! ```text
+//! document,annotator,revision,state,ignored,annotations,parked
+//! rome,ann,2,finished,false,4,0
+//! rome,bob,0,none,false,0,0
+//!
+//! snapshot,document,holders,items,unanimous,accepted,rejected,undecided
+//! 1,rome,2,6,3,1,0,2
+//! ```
+#![tactic(auto)]
+
+mod item_counts;
+mod laws;
+mod progress;
+mod snapshots;
+mod table_writer;
+mod verdict_counts;
+mod worked_rows;
+
+pub use crate::laws::every_annotator_has_a_row;
+pub use crate::progress::progress_csv;
+pub use crate::snapshots::snapshots_csv;
+pub use crate::worked_rows::{examples_of_curation, examples_of_progress};
