@@ -2,4 +2,5 @@ pub mod HeldSoFar
 pub mod Projects
 pub mod Reading
 pub mod Runs
+pub mod SoundLaws
 pub mod VerdictReading

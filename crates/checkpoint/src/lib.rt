@@ -24,6 +24,7 @@ mod row_pieces;
 mod same_bytes;
 mod shot_pieces;
 mod so_far;
+mod sound_laws;
 mod text_pieces;
 mod told_document;
 mod told_state;
@@ -33,4 +34,7 @@ pub use crate::laws::checkpoints_are_sound;
 pub use crate::open_shot::OpenShot;
 pub use crate::restored::{RestoreFault, Restored, restore};
 pub use crate::so_far::{OpenRow, Part, SoFar, Stage};
+pub use crate::sound_laws::{
+    checkpoints_have_no_fault, pieces_are_read_in_one_way, sound_states_have_checkpoints,
+};
 pub use crate::told_state::ToldState;
