@@ -19,4 +19,8 @@ mod SoundTexts
 mod SoundWalk
 mod StandLemmas
 mod StoredLemmas
+mod ToldLemmas
+mod ToldLists
+mod ToldParts
+mod ToldPieces
 mod VerdictLemmas

@@ -139,7 +139,7 @@ closed_shots : (s : ProjectState) (p : Part) → (closed_by p s).snapshots ≡ s
 closed_shots s (part.Row r) = refl
 closed_shots s _ = refl
 
-whole_hand : (p : Part) → is_whole p ≡ true → in_hand p ≡ 0
+pub whole_hand : (p : Part) → is_whole p ≡ true → in_hand p ≡ 0
 whole_hand part.Start e = refl
 whole_hand (part.Row r) e = refl
 whole_hand (part.Shot h) e = absurd cc
@@ -197,7 +197,7 @@ flag_none : (revision flags : ℕ) → (nat_lt 0 revision || flags == 0) ≡ tru
 flag_none zero flags e none = eqb-true flags 0 e
 flag_none (suc n) flags e none = absurd (omega arith)
 
-told_next : (p : Part) (doc rater : ℕ) → comes_next p doc rater ≡ true → is_whole p ≡ true
+pub told_next : (p : Part) (doc rater : ℕ) → comes_next p doc rater ≡ true → is_whole p ≡ true
 told_next part.Start doc rater e = refl
 told_next (part.Row r) doc rater e = (and_parts _ _ e).0
 told_next (part.Shot h) doc rater e = absurd cc
@@ -363,15 +363,15 @@ held_stands so (part.Shot h) who lines layer is takes =
     }
 held_stands so _ who lines layer is takes = absurd takes
 
-held_hand : (p : Part) (who : List ℕ) (layer : Annotations) → in_hand (with_held_in p who layer) ≡ in_hand p
+pub held_hand : (p : Part) (who : List ℕ) (layer : Annotations) → in_hand (with_held_in p who layer) ≡ in_hand p
 held_hand (part.Shot h) who layer = refl
 held_hand _ who layer = refl
 
-layer_hand : (p : Part) (layer : Annotations) → in_hand (with_layer p layer) ≡ in_hand p
+pub layer_hand : (p : Part) (layer : Annotations) → in_hand (with_layer p layer) ≡ in_hand p
 layer_hand (part.Row r) layer = refl
 layer_hand _ layer = refl
 
-draft_hand : (p : Part) (done undone : List Command) → in_hand (with_draft p done undone) ≡ in_hand p
+pub draft_hand : (p : Part) (done undone : List Command) → in_hand (with_draft p done undone) ≡ in_hand p
 draft_hand (part.Row r) done undone = refl
 draft_hand _ done undone = refl
 

@@ -3,4 +3,5 @@ pub mod Projects
 pub mod Reading
 pub mod Runs
 pub mod SoundLaws
+pub mod ToldLaws
 pub mod VerdictReading

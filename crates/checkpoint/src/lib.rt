@@ -27,6 +27,7 @@ mod so_far;
 mod sound_laws;
 mod text_pieces;
 mod told_document;
+mod told_laws;
 mod told_state;
 mod verdicts;
 
@@ -37,4 +38,5 @@ pub use crate::so_far::{OpenRow, Part, SoFar, Stage};
 pub use crate::sound_laws::{
     checkpoints_have_no_fault, pieces_are_read_in_one_way, sound_states_have_checkpoints,
 };
+pub use crate::told_laws::checkpoints_are_pieces;
 pub use crate::told_state::ToldState;
