@@ -1,6 +1,7 @@
 mod AlikeLemmas
 mod AscendingIds
 mod BackLemmas
+mod BackStepLemmas
 mod CommandLemmas
 mod DeskLemmas
 mod ElsewhereLemmas
@@ -22,6 +23,7 @@ mod OwnLemmas
 mod PairSets
 mod PairedLemmas
 mod PartFlawLemmas
+mod RegroupLemmas
 mod RoomLemmas
 mod SubjectLemmas
 mod TellLemmas

@@ -1,6 +1,7 @@
 pub mod Commands
 pub mod OwnRules
 pub mod Backs
+pub mod Regrouped
 pub mod MadeLayers
 pub mod CommandRules
 pub mod Cascade

@@ -42,6 +42,10 @@ abbrev pub IsIndexedBut : AnnId → Annotations → Option Index → Type 0
 IsIndexedBut id layer None = ⊤
 IsIndexedBut id layer (Some index) = IsIndex (Some id) layer index
 
+-- an index of one layer is one of another
+abbrev pub KeepsIndex : Annotations → Annotations → Type 0
+KeepsIndex before after = (index : Index) → IsIndex None before index → IsIndex None after index
+
 -- a layer is well-formed for some configuration and some text
 abbrev pub IsSomeWellFormed : Annotations → Type 0
 IsSomeWellFormed layer = (conf : Configuration) × ((characters : ℕ) × IsWellFormed conf characters layer)

@@ -21,7 +21,6 @@ use crate::first_annotation::{
     attribute_on, event_of, first_note, first_reference, is_in_trigger, span_of,
 };
 use crate::new_numbers::new_number;
-use crate::removal::take_all_away;
 use conf_model::Conf;
 use layer_model::{Attribute, Event, Layer, Mark, Normal, Note, Relation, Span, id_at};
 use layer_rules::is_id;
@@ -325,22 +324,10 @@ fn clear(namers: &[AnnId], id: AnnId) -> Change
     }
 }
 
-/// A layer with these members as one class. Cost: a copy of the layer.
-fn with_class(layer: &Layer, kind: RelId, members: &IdList) -> Result<Layer, Memory>
-    requires some { 0 < length members.now }
-    requires few { length layer.now.classes < 4294967295 }
-    ensures { IfOk result (λ made. made ≡ with_classes layer.now (joined kind members.now layer.now.classes)) }
-{
-    let mut made = layer.copy()?;
-    made.join(kind, members.copy()?)?;
-    Ok(made)
-}
-
-/// Members that are one class. Cost: a copy of the layer.
-fn equate(conf: &Conf, layer: &Layer, kind: &Name, members: &IdList) -> Result<Change, Memory>
-    requires few { length layer.now.classes < 4294967295 }
-    ensures made { IfOk result (λ made. draft_by layer.now made ≡ draft conf.now layer.now (Command.Equate kind.now members.now)) }
-    ensures fits { IfOk result (FitsLayer layer.now) }
+/// Members that are one class. Cost: their number.
+fn equate(conf: &Conf, kind: &Name, members: &IdList) -> Result<Change, Memory>
+    ensures made { IfOk result (λ made. (layer : Annotations) → draft_by layer made ≡ draft conf.now layer (Command.Equate kind.now members.now)) }
+    ensures fits { IfOk result (λ made. (layer : Annotations) → FitsLayer layer made) }
 {
     if members.items().is_empty() {
         return Ok(Change::Nothing);
@@ -348,21 +335,19 @@ fn equate(conf: &Conf, layer: &Layer, kind: &Name, members: &IdList) -> Result<C
     let Some(kind) = conf.relation(kind) else {
         return Ok(Change::Nothing);
     };
-    let made = with_class(layer, kind, members)?;
-    Ok(Change::Whole { layer: made })
+    let members = members.copy()?;
+    Ok(Change::Join { kind, members })
 }
 
-/// A member leaves its class. Cost: a copy of the layer.
-fn unequate(conf: &Conf, layer: &Layer, kind: &Name, id: AnnId) -> Result<Change, Memory>
-    ensures made { IfOk result (λ made. draft_by layer.now made ≡ draft conf.now layer.now (Command.Unequate kind.now id)) }
-    ensures fits { IfOk result (FitsLayer layer.now) }
+/// A member leaves its class.
+fn unequate(conf: &Conf, kind: &Name, id: AnnId) -> Change
+    ensures made { (layer : Annotations) → draft_by layer result ≡ draft conf.now layer (Command.Unequate kind.now id) }
+    ensures fits { (layer : Annotations) → FitsLayer layer result }
 {
-    let Some(kind) = conf.relation(kind) else {
-        return Ok(Change::Nothing);
-    };
-    let mut made = layer.copy()?;
-    made.part(kind, id);
-    Ok(Change::Whole { layer: made })
+    match conf.relation(kind) {
+        Some(kind) => Change::Part { kind, id },
+        None => Change::Nothing,
+    }
 }
 
 /// Another text in the mark that is there, or a new one of a letter.
@@ -428,16 +413,13 @@ fn set_reference(
     Ok(made)
 }
 
-/// An annotation goes, with all that names it, again and again. Cost: a copy of the layer, and what
-/// `falling` and `take_all_away` cost.
+/// An annotation goes, with all that names it, again and again. Cost: as `falling`.
 fn purge(alloc: Global, layer: &Layer, id: AnnId) -> Result<Change, Memory>
     ensures made { IfOk result (λ made. (conf : _) → draft_by layer.now made ≡ draft conf layer.now (Command.Purge id)) }
     ensures fits { IfOk result (FitsLayer layer.now) }
 {
-    let ids = falling(alloc, layer, id)?;
-    let mut made = layer.copy()?;
-    take_all_away(alloc, &mut made, &ids)?;
-    Ok(Change::Whole { layer: made })
+    let ids = IdList::from_vec(falling(alloc, layer, id)?);
+    Ok(Change::Less { ids })
 }
 
 /// The layer of a load. Cost: a copy of it.
@@ -452,8 +434,7 @@ fn load(loaded: &Layer) -> Result<Change, Memory>
 /// What a command does to a layer, where its names are declared and its IDs lead to what it changes, and
 /// where these annotations name its subject. Cost: their number, the annotation that is put, and look-ups
 /// in ordered maps; where the greatest number of a letter is taken, the numbers up to the first that is
-/// free. A command on classes, a purge and a load cost a copy of the layer that they make, and a purge what
-/// `falling` and `take_all_away` cost.
+/// free. A load costs a copy of the layer that it makes, and a purge what `falling` costs.
 pub(crate) fn change(
     alloc: Global,
     conf: &Conf,
@@ -461,7 +442,6 @@ pub(crate) fn change(
     namers: &[AnnId],
     command: &Command,
 ) -> Result<Change, Memory>
-    requires few { length layer.now.classes < 4294967295 }
     requires named { AreNamers layer.now command.now namers.now }
     ensures made { IfOk result (λ made. draft_by layer.now made ≡ draft conf.now layer.now command.now) }
     ensures fits { IfOk result (FitsLayer layer.now) }
@@ -488,8 +468,8 @@ pub(crate) fn change(
             value,
         } => Ok(set_attribute(conf, layer, namers, kind, *target, value)),
         Command::ClearAttribute { id } => Ok(clear(namers, *id)),
-        Command::Equate { kind, members } => equate(conf, layer, kind, members),
-        Command::Unequate { kind, id } => unequate(conf, layer, kind, *id),
+        Command::Equate { kind, members } => equate(conf, kind, members),
+        Command::Unequate { kind, id } => Ok(unequate(conf, kind, *id)),
         Command::SetNote { target, kind, text } => set_note(layer, namers, *target, kind, text),
         Command::SetReference {
             target,

@@ -1,25 +1,31 @@
 //! A change of a layer, judged and then done, or taken back.
-ghost use Rattle.std.specs.Prelude.{◌≡◌, ℕ, IfOk, OnErr, OnOk, None, Some, length, option_map, true};
+ghost use Rattle.std.specs.Prelude.{◌≡◌, ◌<◌, ℕ, IfOk, OnErr, OnOk, None, Some, length, option_map, true};
 ghost use Rattle.std.specs.Option.{option_map_or};
 ghost use Rattle.layer_model.specs.Annotations.{Annotations};
-ghost use Rattle.layer_model.specs.Layers.{has, is_of_kind, mark_at, with_mark, without};
+ghost use Rattle.layer_model.specs.Classes.{IsClassList, joined, parted};
+ghost use Rattle.layer_model.specs.Layers.{has, is_of_kind, mark_at, with_classes, with_mark, without};
 ghost use Rattle.conf_model.specs.Configurations.{Configuration};
 ghost use Rattle.layer_rules.specs.CheckFaults.{IsCheckFault};
 ghost use Rattle.layer_rules.specs.LowestFlaw.{HasGoodSpans};
 ghost use Rattle.layer_rules.specs.WellFormed.{IsWellFormed, least_flaw};
 ghost use Rattle.layer_core.specs.declared.change.Change.TheVariants as change;
+ghost use Rattle.layer_core.specs.declared.back.Back.TheVariants as back;
 ghost use Rattle.layer_core.specs.Backs.{DiffersUnder, IsWayBack, with_this};
 ghost use Rattle.layer_core.specs.Changes.{FitsLayer, changed_rule, draft_by};
 ghost use Rattle.layer_core.specs.CommandRules.{first_naming};
 ghost use Rattle.layer_core.specs.Commands.{lower_rule};
 ghost use Rattle.layer_core.specs.Indexes.{IsIndex};
-ghost use Rattle.layer_core.specs.MadeLayers.{gone, with_less};
-ghost use Rattle.layer_core.specs.Outcomes.{IsIndexed, IsOutcome};
+ghost use Rattle.layer_core.specs.Joined.{joined_flaw};
+ghost use Rattle.layer_core.specs.MadeLayers.{gone, with_less, without_all};
+ghost use Rattle.layer_core.specs.Outcomes.{IsIndexed, IsOutcome, KeepsIndex};
+ghost use Rattle.layer_core.specs.Regrouped.{beside};
 
 use crate::change::Change;
 use crate::index::Index;
+use crate::joined_classes::{JoinPlan, plan_join};
 use crate::near::{changed_rule, lower_rule};
-use crate::removal::take_away;
+use crate::removal::{beside, take_all_away, take_away};
+use crate::taken::{Taken, TakenList};
 use crate::ways_back::is_held;
 use crate::work::Done;
 use crate::{Back, Refusal};
@@ -27,7 +33,7 @@ use char_documents::Doc;
 use conf_model::Conf;
 use layer_model::{Layer, Mark, Rule};
 use layer_rules::{CheckFault, check};
-use mark_base::{AnnId, Memory};
+use mark_base::{AnnId, IdList, Memory, RelId};
 use std::alloc::Global;
 use std::mem;
 
@@ -142,15 +148,6 @@ fn put(
     }
 }
 
-/// A layer without an annotation, in no class either.
-fn without_held(alloc: Global, layer: &Layer, id: AnnId) -> Result<Layer, Memory>
-    ensures { IfOk result (λ made. made ≡ gone layer.now id) }
-{
-    let mut made = layer.copy()?;
-    take_away(alloc, &mut made, id)?;
-    Ok(made)
-}
-
 /// Takes an annotation away that stands in no class.
 fn take_alone(layer: &mut Layer, index: Index, id: AnnId) -> (Back, Option<Index>)
     requires good { (conf : Configuration) × HasGoodSpans conf layer.old }
@@ -164,8 +161,56 @@ fn take_alone(layer: &mut Layer, index: Index, id: AnnId) -> (Back, Option<Index
     (Back::Under { id, mark: before }, index)
 }
 
+/// Takes an annotation away that stands in a class, and out of all classes, and tells what leads back. Want
+/// of memory leaves the layer as it was.
+fn take_one(alloc: Global, layer: &mut Layer, id: AnnId) -> Result<TakenList, Memory>
+    ensures gone { OnOk result (layer.new ≡ gone layer.old id) }
+    ensures back { IfOk result (λ taken. IsWayBack (back.Marks taken) layer.new layer.old) }
+    ensures kept { OnErr result (layer.new ≡ layer.old) }
+{
+    let mut all = Vec::with_capacity(alloc, 1)?;
+    let taken = take_away(alloc, layer, id)?;
+    all.push_reserved(taken);
+    Ok(TakenList::from_vec(all))
+}
+
+/// The index of a layer from which one annotation was taken, as far as memory allows one.
+fn taken_out(index: Index, layer: &Layer, id: AnnId, taken: &[Taken]) -> Option<Index>
+    requires good { (conf : Configuration) × HasGoodSpans conf layer.now }
+    requires index { IsIndex (Some id) layer.now index }
+    ensures { IsIndexed layer.now result }
+{
+    match taken {
+        [one] => taken_in(index, layer, id, &one.mark),
+        _ => None,
+    }
+}
+
+/// Takes an annotation away that stands in a class, and out of all classes. Cost: as `take_away`.
+fn take_member(
+    alloc: Global,
+    layer: &mut Layer,
+    index: Index,
+    id: AnnId,
+) -> (Result<Back, Memory>, Option<Index>)
+    requires good { (conf : Configuration) × HasGoodSpans conf layer.old }
+    requires index { IsIndex None layer.old index }
+    ensures done { OnOk result.0 (layer.new ≡ gone layer.old id) }
+    ensures back { IfOk result.0 (λ back. IsWayBack back layer.new layer.old) }
+    ensures kept { OnErr result.0 (layer.new ≡ layer.old) }
+    ensures index { IsIndexed layer.new result.1 }
+{
+    match take_one(alloc, layer, id) {
+        Ok(taken) => {
+            let index = taken_out(index, layer, id, taken.items());
+            (Ok(Back::Marks { taken }), index)
+        }
+        Err(memory) => (Err(memory), Some(index)),
+    }
+}
+
 /// Takes an annotation away that no other names, and out of all classes. Cost: as the look-up of an ordered
-/// map, and where it stands in a class a copy of the layer and what `take_away` costs.
+/// map, and where it stands in a class what `take_away` costs.
 fn take_unnamed(
     alloc: Global,
     layer: &mut Layer,
@@ -183,13 +228,7 @@ fn take_unnamed(
         let (back, index) = take_alone(layer, index, id);
         return (Ok(back), index);
     }
-    match without_held(alloc, layer, id) {
-        Ok(made) => {
-            let earlier = mem::replace(layer, made);
-            (Ok(Back::Whole { layer: earlier }), None)
-        }
-        Err(memory) => (Err(memory), Some(index)),
-    }
+    take_member(alloc, layer, index, id)
 }
 
 /// Takes an annotation away that no other names, where the command's own fields break no rule.
@@ -247,7 +286,7 @@ fn whole_rule(
     }
 }
 
-/// Puts a whole layer in the place of another, where no rule is broken then.
+/// Puts a whole layer in the place of another, where no rule is broken then. The other leads back.
 fn replace(
     alloc: Global,
     conf: &Conf,
@@ -271,6 +310,164 @@ fn replace(
         }
         Ok(Some(rule)) => (Err(Refusal::Rule(rule)), Some(index)),
         Err(_) => (Err(Refusal::Memory), Some(index)),
+    }
+}
+
+/// A layer without some annotations, in no class either, and the annotations, which lead back.
+#[derive(Drop)]
+struct Less {
+    made: Layer,
+    taken: TakenList,
+}
+
+/// A layer without some annotations, in no class either.
+fn without_these(alloc: Global, layer: &Layer, ids: &[AnnId]) -> Result<Less, Memory>
+    ensures made { IfOk result (λ less. less.made ≡ without_all layer.now ids.now) }
+    ensures back { IfOk result (λ less. IsWayBack (back.Marks less.taken) less.made layer.now) }
+{
+    let mut made = layer.copy()?;
+    let taken = take_all_away(alloc, &mut made, ids)?;
+    Ok(Less { made, taken })
+}
+
+/// Puts a layer without some annotations in the place of the one that has them, where no rule is broken then.
+fn lessen(
+    alloc: Global,
+    conf: &Conf,
+    doc: &Doc,
+    layer: &mut Layer,
+    index: Index,
+    own: Option<Rule>,
+    less: Less,
+) -> (Outcome, Option<Index>)
+    requires index { IsIndex None layer.old index }
+    requires back { IsWayBack (back.Marks less.taken) less.made layer.old }
+    ensures outcome { IsOutcome conf.now (length doc.now) own (Some (with_less less.made)) layer.old layer.new result.0 }
+    ensures index { IsIndexed layer.new result.1 }
+{
+    let Less { made, taken } = less;
+    match whole_rule(alloc, conf, doc, own, &made) {
+        Ok(None) => {
+            *layer = made;
+            (Ok((Done { made: None }, Back::Marks { taken })), None)
+        }
+        Ok(Some(rule)) => (Err(Refusal::Rule(rule)), Some(index)),
+        Err(_) => (Err(Refusal::Memory), Some(index)),
+    }
+}
+
+/// Takes some annotations away, and out of all classes, where no rule is broken then. Cost: a copy and a
+/// check of the layer, and as `take_all_away`.
+fn purge(
+    alloc: Global,
+    conf: &Conf,
+    doc: &Doc,
+    layer: &mut Layer,
+    index: Index,
+    own: Option<Rule>,
+    ids: &[AnnId],
+) -> (Outcome, Option<Index>)
+    requires index { IsIndex None layer.old index }
+    ensures outcome { IsOutcome conf.now (length doc.now) own (Some (with_less (without_all layer.old ids.now))) layer.old layer.new result.0 }
+    ensures index { IsIndexed layer.new result.1 }
+{
+    match without_these(alloc, layer, ids) {
+        Ok(less) => lessen(alloc, conf, doc, layer, index, own, less),
+        Err(_) => (Err(Refusal::Memory), Some(index)),
+    }
+}
+
+/// What leads back where a member leaves its class of a relation type, and this one stays.
+fn member_back(kind: RelId, id: AnnId, stays: Option<AnnId>) -> Back
+    ensures { (layer : Annotations) → IsClassList layer.classes → stays ≡ beside kind.n id layer.classes → IsWayBack result (with_classes layer (parted kind.n id layer.classes)) layer }
+{
+    match stays {
+        Some(beside) => Back::Member { kind, id, beside },
+        None => Back::Same,
+    }
+}
+
+/// Takes a member out of its class of a relation type, and tells what leads back. Cost: the members of the
+/// classes.
+fn part_told(layer: &mut Layer, kind: RelId, id: AnnId) -> Back
+    ensures layer { layer.new ≡ with_classes layer.old (parted kind.n id layer.old.classes) }
+    ensures back { IsWayBack result layer.new layer.old }
+{
+    layer.keeps();
+    let stays = beside(layer.classes(), kind, id);
+    layer.part(kind, id);
+    member_back(kind, id, stays)
+}
+
+/// Takes a member out of its class of a relation type, where the command's own fields break no rule. Cost:
+/// the members of the classes.
+fn part(
+    conf: &Conf,
+    doc: &Doc,
+    layer: &mut Layer,
+    own: Option<Rule>,
+    kind: RelId,
+    id: AnnId,
+) -> Outcome
+    requires { IsWellFormed conf.now (length doc.now) layer.old }
+    ensures outcome { IsOutcome conf.now (length doc.now) own (Some (with_less (with_classes layer.old (parted kind.n id layer.old.classes)))) layer.old layer.new result }
+    ensures index { KeepsIndex layer.old layer.new }
+{
+    let _characters = doc.char_count();
+    let _types = conf.types();
+    match own {
+        Some(rule) => Err(Refusal::Rule(rule)),
+        None => Ok((Done { made: None }, part_told(layer, kind, id))),
+    }
+}
+
+/// Joins members that come to this, where no rule is broken then.
+fn join_as(
+    conf: &Conf,
+    doc: &Doc,
+    layer: &mut Layer,
+    own: Option<Rule>,
+    kind: RelId,
+    members: IdList,
+    plan: JoinPlan,
+) -> Outcome
+    requires well_formed { IsWellFormed conf.now (length doc.now) layer.old }
+    requires some { 0 < length members }
+    requires rule { plan.rule ≡ option_map (λ flaw. flaw.rule) (joined_flaw conf.now layer.old kind members) }
+    requires back { IsWayBack plan.back (with_classes layer.old (joined kind members layer.old.classes)) layer.old }
+    ensures outcome { IsOutcome conf.now (length doc.now) own (Some (with_less (with_classes layer.old (joined kind members layer.old.classes)))) layer.old layer.new result }
+    ensures index { KeepsIndex layer.old layer.new }
+{
+    let _characters = doc.char_count();
+    let _types = conf.types();
+    let JoinPlan { rule, back } = plan;
+    match lower_rule(own, rule) {
+        Some(rule) => Err(Refusal::Rule(rule)),
+        None => match layer.join(kind, members) {
+            Ok(()) => Ok((Done { made: None }, back)),
+            Err(_) => Err(Refusal::Memory),
+        },
+    }
+}
+
+/// Joins members, where no rule is broken then. Cost: as `plan_join`.
+fn join(
+    alloc: Global,
+    conf: &Conf,
+    doc: &Doc,
+    layer: &mut Layer,
+    own: Option<Rule>,
+    kind: RelId,
+    members: IdList,
+) -> Outcome
+    requires well_formed { IsWellFormed conf.now (length doc.now) layer.old }
+    requires some { 0 < length members }
+    ensures outcome { IsOutcome conf.now (length doc.now) own (Some (with_less (with_classes layer.old (joined kind members layer.old.classes)))) layer.old layer.new result }
+    ensures index { KeepsIndex layer.old layer.new }
+{
+    match plan_join(alloc, conf, layer, kind, members.items()) {
+        Ok(plan) => join_as(conf, doc, layer, own, kind, members, plan),
+        Err(_) => Err(Refusal::Memory),
     }
 }
 
@@ -306,6 +503,12 @@ pub(crate) fn done(
             put(alloc, conf, doc, layer, index, own, id, mark, is_new)
         }
         Change::Without { id } => take(alloc, conf, doc, layer, index, own, id),
+        Change::Join { kind, members } => (
+            join(alloc, conf, doc, layer, own, kind, members),
+            Some(index),
+        ),
+        Change::Part { kind, id } => (part(conf, doc, layer, own, kind, id), Some(index)),
+        Change::Less { ids } => purge(alloc, conf, doc, layer, index, own, ids.items()),
         Change::Whole { layer: made } => replace(alloc, conf, doc, layer, index, own, made),
     }
 }

@@ -1,19 +1,26 @@
 //! The way from the layer that a command made back to the layer before it.
-ghost use Rattle.std.specs.Prelude.{◌≡◌, true, IfErr, IfOk, OnErr, OnOk};
-ghost use Rattle.std.specs.List.{list_any};
-ghost use Rattle.layer_model.specs.Classes.{has_rank, rank};
-ghost use Rattle.layer_model.specs.Layers.{is_of_kind, mark_at, with_mark, without};
-ghost use Rattle.layer_core.specs.Backs.{fits_back, led_back};
-ghost use Rattle.layer_core.specs.Outcomes.{IsIndexed, IsIndexedBut, IsSomeWellFormed};
+ghost use Rattle.std.specs.Prelude.{◌≡◌, ◌<◌, ◌∷◌, [], true, IfErr, IfOk, OnErr, OnOk, length};
+ghost use Rattle.std.specs.List.{list_all, list_any};
+ghost use Rattle.std.specs.Option.{option_map_or};
+ghost use Rattle.layer_model.specs.Classes.{has_rank, joined, rank};
+ghost use Rattle.layer_model.specs.Layers.{is_of_kind, mark_at, with_classes, with_mark, without};
+ghost use Rattle.layer_core.specs.Backs.{fits_back, fits_taken, has_some, led_back, with_all_taken, with_left, with_taken, with_this};
+ghost use Rattle.layer_core.specs.Outcomes.{IsIndexed, IsIndexedBut, IsSomeWellFormed, KeepsIndex};
+ghost use Rattle.layer_core.specs.Regrouped.{all_joined, all_parted};
 
 use crate::Back;
 use crate::index::Index;
 use crate::outcome::{set, taken_in};
+use crate::taken::{Left, Taken};
 use layer_model::{Class, Layer, Mark, rank};
-use mark_base::{AnnId, Memory};
+use mark_base::{AnnId, IdList, Memory, RelId};
+use std::alloc::Global;
+
+/// How many classes can be numbered.
+const MOST_NUMBERED: usize = 4_294_967_295;
 
 /// Whether the ID of this place is one of the members.
-fn has_rank(members: &[AnnId], place: u64) -> bool
+pub(crate) fn has_rank(members: &[AnnId], place: u64) -> bool
     ensures { result ≡ has_rank place members.now }
 {
     members.iter().any(|member| rank(*member) == place)
@@ -83,8 +90,176 @@ fn put_again(
     Ok(())
 }
 
+/// Puts under an ID what stood there before, or nothing. Want of memory leaves the layer as it was.
+fn stand_under(
+    layer: &mut Layer,
+    index: &mut Option<Index>,
+    id: AnnId,
+    mark: &Option<Mark>,
+) -> Result<(), Memory>
+    requires fits { option_map_or (is_of_kind id.kind) mark.now true ≡ true }
+    requires well_formed { IsSomeWellFormed (with_this layer.old id.kind id.number mark.now) }
+    requires index { IsIndexed layer.old index.old }
+    ensures done { OnOk result (layer.new ≡ with_this layer.old id.kind id.number mark.now) }
+    ensures kept { OnErr result (layer.new ≡ layer.old) }
+    ensures index { IsIndexed layer.new index.new }
+{
+    match mark {
+        Some(mark) => put_again(layer, index, id, mark),
+        None => {
+            take_again(layer, index, id);
+            Ok(())
+        }
+    }
+}
+
+/// Takes members out of the classes of a relation type, one after another. Cost: the members of the classes
+/// for each.
+fn part_each(layer: &mut Layer, kind: RelId, ids: &[AnnId])
+    ensures { layer.new ≡ with_classes layer.old (all_parted kind.n ids.now layer.old.classes) }
+{
+    for id in ids {
+        layer.part(kind, *id);
+    }
+}
+
+/// Joins members, where there is room for a class more. Want of memory leaves the layer as it was.
+fn join(layer: &mut Layer, kind: RelId, members: IdList) -> Result<(), Memory>
+    requires { 0 < length members }
+    ensures done { OnOk result (layer.new ≡ with_classes layer.old (joined kind members layer.old.classes)) }
+    ensures kept { OnErr result (layer.new ≡ layer.old) }
+    ensures index { KeepsIndex layer.old layer.new }
+{
+    if layer.classes().len() >= MOST_NUMBERED {
+        return Err(Memory);
+    }
+    layer.join(kind, members)
+}
+
+/// Joins the members of each of some classes, those of the last first.
+fn join_each(layer: &mut Layer, classes: &[Class]) -> Result<(), Memory>
+    requires { list_all has_some classes.now ≡ true }
+    ensures { OnOk result (layer.new ≡ with_classes layer.old (all_joined classes.now layer.old.classes)) }
+{
+    let mut left = classes;
+    while let [others @ .., class] = left {
+        join(layer, class.kind, class.members.copy()?)?;
+        left = others;
+    }
+    Ok(())
+}
+
+/// Puts a member into the class that has the one beside. Want of memory leaves the layer as it was.
+fn join_beside(
+    alloc: Global,
+    layer: &mut Layer,
+    kind: RelId,
+    id: AnnId,
+    beside: AnnId,
+) -> Result<(), Memory>
+    ensures done { OnOk result (layer.new ≡ with_classes layer.old (joined kind (id ∷ beside ∷ []) layer.old.classes)) }
+    ensures kept { OnErr result (layer.new ≡ layer.old) }
+    ensures index { KeepsIndex layer.old layer.new }
+{
+    let members = IdList::of(alloc, &[id, beside])?;
+    join(layer, kind, members)
+}
+
+/// A copy of a layer in which members left their classes and others are classes again.
+fn regrouped(layer: &Layer, kind: RelId, out: &[AnnId], again: &[Class]) -> Result<Layer, Memory>
+    requires { list_all has_some again.now ≡ true }
+    ensures { IfOk result (λ made. made ≡ with_classes layer.now (all_joined again.now (all_parted kind.n out.now layer.now.classes))) }
+{
+    let mut made = layer.copy()?;
+    part_each(&mut made, kind, out);
+    join_each(&mut made, again)?;
+    Ok(made)
+}
+
+/// Lets members leave their classes, and makes others classes again. Want of memory leaves the layer as it
+/// was. Cost: the members of the classes for each member that leaves, and where there are others a copy of
+/// the layer.
+fn regroup(layer: &mut Layer, kind: RelId, out: &[AnnId], again: &[Class]) -> Result<(), Memory>
+    requires { list_all has_some again.now ≡ true }
+    ensures done { OnOk result (layer.new ≡ with_classes layer.old (all_joined again.now (all_parted kind.n out.now layer.old.classes))) }
+    ensures kept { OnErr result (layer.new ≡ layer.old) }
+    ensures index { KeepsIndex layer.old layer.new }
+{
+    if again.is_empty() {
+        part_each(layer, kind, out);
+        return Ok(());
+    }
+    let made = regrouped(layer, kind, out, again)?;
+    *layer = made;
+    Ok(())
+}
+
+/// Puts an ID into the classes that it left, the last of them first.
+fn join_left(alloc: Global, layer: &mut Layer, id: AnnId, left: &[Left]) -> Result<(), Memory>
+    ensures { OnOk result (layer.new ≡ with_classes layer.old (with_left id left.now layer.old.classes)) }
+{
+    let mut more = left;
+    while let [others @ .., class] = more {
+        join_beside(alloc, layer, class.kind, id, class.beside)?;
+        more = others;
+    }
+    Ok(())
+}
+
+/// Puts an annotation that was taken away into its place again, and into the classes that it left.
+fn stand_again(alloc: Global, layer: &mut Layer, taken: &Taken) -> Result<(), Memory>
+    requires { fits_taken taken.now ≡ true }
+    ensures { OnOk result (layer.new ≡ with_taken taken.now layer.old) }
+{
+    join_left(alloc, layer, taken.id, taken.left.items())?;
+    match &taken.mark {
+        Some(mark) => {
+            set_again(layer, taken.id, mark)?;
+        }
+        None => {
+            layer.take(taken.id);
+        }
+    }
+    Ok(())
+}
+
+/// Puts annotations that were taken away into their places again, the one that went last first.
+fn stand_each(alloc: Global, layer: &mut Layer, taken: &[Taken]) -> Result<(), Memory>
+    requires { list_all fits_taken taken.now ≡ true }
+    ensures { OnOk result (layer.new ≡ with_all_taken taken.now layer.old) }
+{
+    let mut left = taken;
+    while let [others @ .., last] = left {
+        stand_again(alloc, layer, last)?;
+        left = others;
+    }
+    Ok(())
+}
+
+/// Puts annotations that were taken away into their places again. Want of memory leaves the layer as it was.
+/// Cost: a copy of the layer, and of the annotations; the index is made anew by the next command.
+fn all_stand_again(
+    alloc: Global,
+    layer: &mut Layer,
+    index: &mut Option<Index>,
+    taken: &[Taken],
+) -> Result<(), Memory>
+    requires fits { list_all fits_taken taken.now ≡ true }
+    requires index { IsIndexed layer.old index.old }
+    ensures done { OnOk result (layer.new ≡ with_all_taken taken.now layer.old) }
+    ensures kept { OnErr result (layer.new ≡ layer.old) }
+    ensures index { IsIndexed layer.new index.new }
+{
+    let mut made = layer.copy()?;
+    stand_each(alloc, &mut made, taken)?;
+    *layer = made;
+    *index = None;
+    Ok(())
+}
+
 /// Goes a way back. Want of memory leaves the layer as it was and gives the way back again.
 pub(crate) fn go_back(
+    alloc: Global,
     layer: &mut Layer,
     index: &mut Option<Index>,
     back: Back,
@@ -104,22 +279,23 @@ pub(crate) fn go_back(
             *index = None;
             Ok(())
         }
-        Back::Under { id, mark: None } => {
-            take_again(layer, index, id);
-            Ok(())
-        }
-        Back::Under {
-            id,
-            mark: Some(mark),
-        } => match put_again(layer, index, id, &mark) {
+        Back::Under { id, mark } => match stand_under(layer, index, id, &mark) {
             Ok(()) => Ok(()),
-            Err(memory) => Err((
-                Back::Under {
-                    id,
-                    mark: Some(mark),
-                },
-                memory,
-            )),
+            Err(memory) => Err((Back::Under { id, mark }, memory)),
+        },
+        Back::Member { kind, id, beside } => match join_beside(alloc, layer, kind, id, beside) {
+            Ok(()) => Ok(()),
+            Err(memory) => Err((Back::Member { kind, id, beside }, memory)),
+        },
+        Back::Classes { kind, out, again } => {
+            match regroup(layer, kind, out.items(), again.items()) {
+                Ok(()) => Ok(()),
+                Err(memory) => Err((Back::Classes { kind, out, again }, memory)),
+            }
+        }
+        Back::Marks { taken } => match all_stand_again(alloc, layer, index, taken.items()) {
+            Ok(()) => Ok(()),
+            Err(memory) => Err((Back::Marks { taken }, memory)),
         },
     }
 }

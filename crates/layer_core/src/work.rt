@@ -1,5 +1,5 @@
 //! A layer that commands change.
-ghost use Rattle.std.specs.Prelude.{◌≡◌, ◌<◌, IfOk, IfErr, OnErr, OnOk, None, Ok, true, length};
+ghost use Rattle.std.specs.Prelude.{◌≡◌, IfOk, IfErr, OnErr, OnOk, None, Ok, true, length};
 ghost use Rattle.std.specs.Arc.{arc_value};
 ghost use Rattle.layer_rules.specs.CheckFaults.{IsCheckFault};
 ghost use Rattle.layer_rules.specs.WellFormed.{IsWellFormed};
@@ -98,8 +98,7 @@ fn asked(
     index: &Index,
     command: &Command,
 ) -> Result<(Option<Rule>, Change), Memory>
-    requires few { length layer.now.classes < 4294967295 }
-    requires index { IsIndex None layer.now index.now }
+    requires { IsIndex None layer.now index.now }
     ensures own { IfOk result (λ asked. asked.0 ≡ own_rule conf.now (length doc.now) layer.now command.now) }
     ensures change { IfOk result (λ asked. draft_by layer.now asked.1 ≡ draft conf.now layer.now command.now) }
     ensures fits { IfOk result (λ asked. FitsLayer layer.now asked.1) }
@@ -165,10 +164,11 @@ impl Work {
     ///
     /// Cost: what the command changes, what names it, what makes a pair with it, and the members of the
     /// classes, each a look-up; where an event is to have an event as an argument, sixteen times the arguments
-    /// of all events. To equate, to unequate, to purge and to load, and to delete what stands in a class, cost a
-    /// copy of the layer and a check of the copy, and a purge besides, for each step of the longest way from
-    /// name to name, a look-up of what each annotation names. The first command, and one behind such a
-    /// command, cost what the annotations name besides.
+    /// of all events; to equate what a join of the members of the classes that share one costs. To purge and to
+    /// load cost a copy of the layer and a check of the copy, and a purge besides, for each step of the longest
+    /// way from name to name, a look-up of what each annotation names. The first command, and one behind such a
+    /// command, its undo or an undo of a delete of what stood in a class, cost what the annotations name
+    /// besides.
     pub fn apply(&mut self, command: Command) -> Result<Done, Refusal>
         ensures done { IfOk result (λ done. apply self.old.conf (length self.old.text) self.old.layer command ≡ Ok (record { layer = self.new.layer; made = done.made })) }
         ensures refused { IfErr result (IsRefusal self.old.conf (length self.old.text) self.old.layer command) }
@@ -229,7 +229,9 @@ impl Work {
 
     /// Goes a way back that `apply_back` told of the layer as it stands: the layer before that command
     /// stands again. Want of memory leaves the work as it was and gives the way back again. Cost: a copy of
-    /// the annotation that the command took away or changed, and what it names, each a look-up.
+    /// the annotation that the command took away or changed, and what it names, each a look-up; behind an equate
+    /// the members of the classes for each member that leaves. Where it joined classes that stood apart, and
+    /// behind a purge and a delete of what stands in a class, a copy of the layer.
     pub fn revert(&mut self, back: Back) -> Result<(), (Back, Memory)>
         requires fits { fits_back back ≡ true }
         requires well_formed { IsWellFormed self.old.conf (length self.old.text) (led_back back self.old.layer) }
@@ -237,6 +239,6 @@ impl Work {
         ensures kept { OnErr result (self.new ≡ self.old) }
         ensures given { IfErr result (λ stop. stop.0 ≡ back) }
     {
-        go_back(&mut self.layer, &mut self.index, back)
+        go_back(self.alloc, &mut self.layer, &mut self.index, back)
     }
 }

@@ -1,5 +1,5 @@
 -- Ways back: one more behind a command that is carried out, and the last one taken.
-use Rattle.std.proofs.Common.{◌≡◌, ℕ, ◌+◌, ◌-◌, ◌<◌, suc, List, [], ◌∷◌, ◌++◌, length, get_or, take, drop, Option, Some, None, Result, Ok, Err, refl, sym, ◌∙◌, ap, subst, arith}
+use Rattle.std.proofs.Common.{◌≡◌, ℕ, ◌+◌, ◌-◌, ◌<◌, suc, List, [], ◌∷◌, ◌++◌, length, get_or, take, drop, Result, Ok, Err, refl, sym, ◌∙◌, ap, subst, arith}
 use Rattle.std.specs.Prelude.{IfOk, is_ok, unwrap_or}
 use Rattle.std.specs.Result.{result_ok}
 use Rattle.std.proofs.lemmas.Bool.{false≢true}
@@ -11,10 +11,9 @@ use Rattle.layer_core.specs.declared.command.Command.{Command}
 use Rattle.layer_core.specs.declared.back.Back.{Back}
 use Rattle.layer_core.specs.Backs.{IsWayBack}
 use Rattle.layer_core.specs.Commands.{Applied, apply}
-use Rattle.layer_undo.specs.Replays.{Outcome, next, replay_from, replay}
-use Rattle.layer_undo.specs.Desks.{last_of, but_last}
+use Rattle.layer_undo.specs.Replays.{Outcome, next, replay_from}
 use Rattle.layer_undo.specs.Trails.{IsTrail}
-use Rattle.layer_undo.proofs.ReplayLemmas.{replay_on, split_last}
+use Rattle.layer_undo.proofs.ReplayLemmas.{replay_on}
 
 -- a command behind which commands come to a layer was carried out
 abbrev pub WentOn : Result Applied Rule → (Annotations → Outcome) → Annotations → Type 0

@@ -30,3 +30,6 @@ returns-in-Load c = record {
   made = rw c.in-Load.is (IfOk-weaker c.load.result _ _ (λ made h. h c.args.conf.now c.args.layer.now) c.load.ensures.made);
   fits = IfOk-weaker c.load.result _ _ (λ made h. h c.args.layer.now) c.load.ensures.fits;
 }
+
+pub returns-in-Unequate-clause-fits : goal.returns-in-Unequate-clause-fits
+returns-in-Unequate-clause-fits c = c.unequate.ensures.fits c.args.layer.now

@@ -1,4 +1,4 @@
-use Rattle.std.proofs.Common.{◌<◌, ◌-◌, [], ◌∷◌, ◌++◌, length, take, drop, sym, refl, ◌∙◌, ap, subst, arith}
+use Rattle.std.proofs.Common.{◌<◌, [], ◌∷◌, ◌++◌, length, sym, refl, ◌∙◌, ap, subst, arith}
 use Rattle.layer_undo.specs.Replays.{replay_from}
 use Rattle.layer_undo.specs.Trails.{IsTrail}
 use Rattle.layer_undo.proofs.TrailLemmas.{front_is, none_is, same_step, trail_step, trail_whole}
