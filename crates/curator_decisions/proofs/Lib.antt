@@ -33,3 +33,6 @@ pub mod UndecidedMissing
 pub mod CuratedRoom
 pub mod CuratedClashes
 pub mod ItemSteps
+pub mod BesideLemmas
+pub mod StepLemmas
+pub mod DependentLemmas

@@ -65,7 +65,7 @@ all_both P Q (x ∷ xs) all more = all_cons (λ y. P y × Q y) x xs (all_head P 
 -- ---- the places of named IDs
 
 -- where an ID of a layer has its content, or that it has none
-abbrev IsFound : List ℕ → Annotations → Option ℕ → AnnId → Type 0
+abbrev pub IsFound : List ℕ → Annotations → Option ℕ → AnnId → Type 0
 IsFound table l o id = MatchOption o (content_of l id ≡ 0) (λ p. (p < length table) × (get_or table p 0 ≡ content_of l id))
 
 -- each layer's IDs are found
@@ -186,7 +186,7 @@ module _ (snapshot : List (List ℕ × Annotations)) (merged : Merged) (m : IsMe
   abbrev pub IsGood : Entry → Type 0
   IsGood e = (e.place < length merged.table) × (get_or merged.table e.place 0 ≡ 0 → ⊥)
 
-  good : All IsGood merged.firsts.items
+  pub good : All IsGood merged.firsts.items
   good =
       let P : List Held → Type 0 = All IsMade in
       all_both (λ (e : Entry). e.place < length merged.table) (λ (e : Entry). get_or merged.table e.place 0 ≡ 0 → ⊥) merged.firsts.items m.within (all_unmap IsMade held merged.firsts.items (subst P (sym m.firsts) (made_leaders snapshot m.layers)))
@@ -222,7 +222,7 @@ module _ (snapshot : List (List ℕ × Annotations)) (merged : Merged) (m : IsMe
   all_held (x ∷ xs) = λ i. (ap is_some (held_is x.0) ∙ is_some_map held (entry_as merged.firsts.items x.0)) i && all_held xs i
 
   module _ (all : List (BTreeMap ℕ ℕ)) (places : AreNames {T = ℕ} (λ at. at) merged.rows.items all) where
-    found : AreFound merged.table snapshot all
+    pub found : AreFound merged.table snapshot all
     found =
         founds_are merged.table m.distinct merged.rows.items snapshot all places m.rows.marks
         (all_more (λ (row : PlacedLayer). All (λ (p : Placed). p.place < length merged.table) row.marks.items × All (λ place. place < length merged.table) row.classes.items) (λ (row : PlacedLayer). All (λ (p : Placed). p.place < length merged.table) row.marks.items) (λ row h. h.0) merged.rows.items m.rows.within)

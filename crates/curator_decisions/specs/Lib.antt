@@ -2,6 +2,7 @@ pub mod Decisions
 pub mod Curated
 pub mod Placing
 pub mod Naming
+pub mod Comparisons
 pub mod Deciding
 pub mod DecisionFaults
 pub mod Undecided

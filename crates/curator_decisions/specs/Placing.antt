@@ -73,3 +73,12 @@ taken_at rows names one =
 -- a class with the new IDs, where all its members are in
 abbrev pub class_at : BTreeMap ℕ (Option AnnId) → Class → Option Class
 class_at names class = option_map (λ members. record { kind = class.kind; members = members }) (all_new (new_of names) class.members)
+
+-- the place of the content of an ID of a holder's layer
+abbrev pub place_in : List (BTreeMap ℕ ℕ) → ℕ → AnnId → Option ℕ
+place_in places holder id = option_and_then (λ of. get nat_cmp of (rank id)) (slice_get places holder)
+
+-- two places may be one: neither is missing where they are known to differ
+abbrev pub may_be_one : Option ℕ → Option ℕ → Bool
+may_be_one (Some place) (Some other) = place == other
+may_be_one place other = true

@@ -1,11 +1,13 @@
 //! Decisions that are accepted and refused.
-ghost use Rattle.std.specs.Prelude.{◌≡◌, ◌<◌, ◌≤◌, ℕ, [], length, map, None, option_map, is_some, slice_index, slice_get, IfErr, IfOk, OnErr, OnOk};
+ghost use Rattle.std.specs.Prelude.{◌≡◌, ◌<◌, ◌≤◌, ℕ, [], length, map, None, option_map, is_some, slice_index, slice_get, All, IfErr, IfOk, OnErr, OnOk};
 ghost use Rattle.std.specs.List.{list_all};
 ghost use Rattle.layer_rules.specs.declared.check_fault.CheckFault.{CheckFault};
 ghost use Rattle.layer_rules.specs.WellFormed.{Obeys};
 ghost use Rattle.unanimous_merge.specs.Merges.{IsMerged};
 ghost use Rattle.unanimous_merge.specs.Readings.{readings};
 ghost use Rattle.unanimous_merge.specs.Rows.{AreCoherent, held_at};
+ghost use Rattle.curator_decisions.specs.Clashes.{JudgesItem};
+ghost use Rattle.curator_decisions.specs.Comparisons.{IsComparison};
 ghost use Rattle.curator_decisions.specs.Curated.{curated};
 ghost use Rattle.curator_decisions.specs.Deciding.{IsFirstFault};
 ghost use Rattle.curator_decisions.specs.DecisionFaults.{changed_fault, decide_fault, decision_fault, first_broken, lacking, layer_fault, undecide_fault, undecided_fault, verdict_fault};
@@ -13,18 +15,21 @@ ghost use Rattle.curator_decisions.specs.Decisions.{Ascend, with_verdict, withou
 ghost use Rattle.curator_decisions.specs.Naming.{entry_as};
 ghost use Rattle.curator_decisions.specs.Placing.{AreNames};
 
+use crate::beside::stands_beside;
 use crate::building::curated_in;
+use crate::comparison::Comparison;
+use crate::curated_laws::decisions_are_judged_by_items;
 use crate::decision_fault::DecisionFault;
 use crate::decisions::{Decisions, item_rank};
 use crate::naming::{
-    all_places, dependent_on, entry_as, item_ranks, lacked, missing_of, named_places, needed_places,
+    dependent_on, entry_as, item_ranks, lacked, missing_of, named_places, needed_places,
 };
 use crate::numbering::is_in;
 use crate::verdict::Verdict;
 use char_documents::Doc;
 use conf_model::Conf;
 use layer_model::{Flaw, Layer, Rule, Snapshot};
-use layer_rules::{CheckFault, check, may_commit};
+use layer_rules::{CheckFault, check, may_commit, unflawed_layers};
 use mark_base::Memory;
 use std::alloc::Global;
 use std::collections::BTreeMap;
@@ -83,43 +88,73 @@ fn layer_fault(
 fn lacking(
     alloc: Global,
     snapshot: &Snapshot,
-    merged: &Merged,
+    comparison: &Comparison,
     decisions: &Decisions,
     entry: Entry,
 ) -> Result<Option<Entry>, Memory>
-    requires merged { IsMerged merged.now snapshot.now }
-    requires entry { (entry.place < length merged.now.table) × (slice_index merged.now.table entry.place ≡ 0 → ⊥) }
-    ensures { IfOk result (λ found. option_map (held_at merged.now.table) found ≡ lacking (readings snapshot.now) decisions.now (held_at merged.now.table entry)) }
+    requires compared { IsComparison comparison.now snapshot.now }
+    requires entry { (entry.place < length comparison.now.merged.table) × (slice_index comparison.now.merged.table entry.place ≡ 0 → ⊥) }
+    ensures { IfOk result (λ found. option_map (held_at comparison.now.merged.table) found ≡ lacking (readings snapshot.now) decisions.now (held_at comparison.now.merged.table entry)) }
 {
-    let all = all_places(alloc, merged.rows.as_slice())?;
-    let places = all.as_slice();
+    let merged = &comparison.merged;
+    let places = comparison.places.as_slice();
     if is_in(merged, decisions, entry) {
         let named = named_places(alloc, snapshot, places, entry)?;
         return Ok(missing_of(merged, decisions, named.as_slice()));
     }
-    let found = dependent_on(alloc, snapshot, merged, places, decisions, entry.place)?;
-    Ok(found)
+    let names = comparison.names.as_slice();
+    Ok(dependent_on(merged, names, decisions, entry.place))
 }
 
 /// The fault of decisions once they have changed at one item.
 fn changed_fault(
     alloc: Global,
     snapshot: &Snapshot,
-    merged: &Merged,
+    comparison: &Comparison,
     doc: &Doc,
     conf: &Conf,
     decisions: &Decisions,
     entry: Entry,
 ) -> Result<Option<DecisionFault>, Memory>
-    requires merged { IsMerged merged.now snapshot.now }
-    requires entry { (entry.place < length merged.now.table) × (slice_index merged.now.table entry.place ≡ 0 → ⊥) }
-    ensures fault { IfOk result (λ fault. fault ≡ changed_fault conf.now (length doc.now) (readings snapshot.now) decisions.now (held_at merged.now.table entry)) }
+    requires compared { IsComparison comparison.now snapshot.now }
+    requires entry { (entry.place < length comparison.now.merged.table) × (slice_index comparison.now.merged.table entry.place ≡ 0 → ⊥) }
+    ensures fault { IfOk result (λ fault. fault ≡ changed_fault conf.now (length doc.now) (readings snapshot.now) decisions.now (held_at comparison.now.merged.table entry)) }
     ensures obeys { IfOk result (λ fault. fault ≡ None → Obeys conf.now (length doc.now) (curated (readings snapshot.now) decisions.now)) }
 {
-    if let Some(other) = lacking(alloc, snapshot, merged, decisions, entry)? {
+    if let Some(other) = lacking(alloc, snapshot, comparison, decisions, entry)? {
         return Ok(Some(DecisionFault::NeedsItem(other.item)));
     }
-    layer_fault(alloc, snapshot, merged, doc, conf, decisions)
+    layer_fault(alloc, snapshot, &comparison.merged, doc, conf, decisions)
+}
+
+/// The same where the decisions were accepted before: an item that goes out, and one that can be beside the others, need
+/// no check of the curated layer.
+fn stepped_fault(
+    alloc: Global,
+    snapshot: &Snapshot,
+    comparison: &Comparison,
+    doc: &Doc,
+    conf: &Conf,
+    decisions: &Decisions,
+    entry: Entry,
+) -> Result<Option<DecisionFault>, Memory>
+    requires compared { IsComparison comparison.now snapshot.now }
+    requires entry { (entry.place < length comparison.now.merged.table) × (slice_index comparison.now.merged.table entry.place ≡ 0 → ⊥) }
+    requires judged { lacking (readings snapshot.now) decisions.now (held_at comparison.now.merged.table entry) ≡ None → JudgesItem conf.now (length doc.now) snapshot.now decisions.now (held_at comparison.now.merged.table entry) }
+    ensures fault { IfOk result (λ fault. fault ≡ changed_fault conf.now (length doc.now) (readings snapshot.now) decisions.now (held_at comparison.now.merged.table entry)) }
+    ensures obeys { IfOk result (λ fault. fault ≡ None → Obeys conf.now (length doc.now) (curated (readings snapshot.now) decisions.now)) }
+{
+    unflawed_layers();
+    if let Some(other) = lacking(alloc, snapshot, comparison, decisions, entry)? {
+        return Ok(Some(DecisionFault::NeedsItem(other.item)));
+    }
+    if !is_in(&comparison.merged, decisions, entry) {
+        return Ok(None);
+    }
+    if stands_beside(snapshot, comparison, conf, decisions, entry) {
+        return Ok(None);
+    }
+    layer_fault(alloc, snapshot, &comparison.merged, doc, conf, decisions)
 }
 
 /// The fault of a verdict on an item that is in, or is not.
@@ -167,16 +202,24 @@ impl Decisions {
         ensures obeys { OnOk result (Obeys conf.now (length doc.now) (curated (readings snapshot.now) self.new)) }
     {
         let alloc = self.allocator();
-        let merged = Merged::of(alloc, snapshot)?;
-        let Some(entry) = entry_as(merged.firsts.as_slice(), item) else {
+        let comparison = Comparison::of(alloc, snapshot)?;
+        let Some(entry) = entry_as(comparison.merged.firsts.as_slice(), item) else {
             return Err(DecisionFault::NoItem);
         };
-        if let Some(fault) = verdict_fault(is_in(&merged, self, entry), verdict) {
+        if let Some(fault) = verdict_fault(is_in(&comparison.merged, self, entry), verdict) {
             return Err(fault);
         }
         let mut changed = self.copy()?;
         changed.set(item, verdict)?;
-        if let Some(fault) = changed_fault(alloc, snapshot, &merged, doc, conf, &changed, entry)? {
+        if let Some(fault) = changed_fault(
+            alloc,
+            snapshot,
+            &comparison,
+            doc,
+            conf,
+            &changed,
+            entry,
+        )? {
             return Err(fault);
         }
         *self = changed;
@@ -200,8 +243,8 @@ impl Decisions {
         ensures obeys { OnOk result (Obeys conf.now (length doc.now) (curated (readings snapshot.now) self.new)) }
     {
         let alloc = self.allocator();
-        let merged = Merged::of(alloc, snapshot)?;
-        let Some(entry) = entry_as(merged.firsts.as_slice(), item) else {
+        let comparison = Comparison::of(alloc, snapshot)?;
+        let Some(entry) = entry_as(comparison.merged.firsts.as_slice(), item) else {
             return Err(DecisionFault::NoItem);
         };
         if self.verdict(item).is_none() {
@@ -209,7 +252,96 @@ impl Decisions {
         }
         let mut changed = self.copy()?;
         changed.unset(item);
-        if let Some(fault) = changed_fault(alloc, snapshot, &merged, doc, conf, &changed, entry)? {
+        if let Some(fault) = changed_fault(
+            alloc,
+            snapshot,
+            &comparison,
+            doc,
+            conf,
+            &changed,
+            entry,
+        )? {
+            return Err(fault);
+        }
+        *self = changed;
+        Ok(())
+    }
+
+    /// Sets the verdict on an item, as `decide` does, by a comparison of the snapshot that is kept. The snapshot's layers
+    /// obey the configuration, and the decisions were accepted. Cost: a look at each item, and for each that is in the
+    /// logarithm of the number of decisions; one curated layer and one check of it only where the item that comes in
+    /// clashes with another.
+    pub fn decide_by(
+        &mut self,
+        snapshot: &Snapshot,
+        comparison: &Comparison,
+        doc: &Doc,
+        conf: &Conf,
+        item: ItemId,
+        verdict: Verdict,
+    ) -> Result<(), DecisionFault>
+        requires compared { IsComparison comparison.now snapshot.now }
+        requires obey { All (λ row. Obeys conf.now (length doc.now) row.1) snapshot.now }
+        requires stand { decision_fault conf.now (length doc.now) (readings snapshot.now) self.old ≡ None }
+        ensures decided { OnOk result (self.new ≡ with_verdict self.old item verdict) }
+        ensures kept { OnErr result (self.new ≡ self.old) }
+        ensures accepted { OnOk result (decide_fault conf.now (length doc.now) (readings snapshot.now) self.old item verdict ≡ None) }
+        ensures refused { IfErr result (IsFirstFault (decide_fault conf.now (length doc.now) (readings snapshot.now) self.old item verdict)) }
+        ensures obeys { OnOk result (Obeys conf.now (length doc.now) (curated (readings snapshot.now) self.new)) }
+    {
+        decisions_are_judged_by_items();
+        let _holders = snapshot.count();
+        let alloc = self.allocator();
+        let Some(entry) = entry_as(comparison.merged.firsts.as_slice(), item) else {
+            return Err(DecisionFault::NoItem);
+        };
+        if let Some(fault) = verdict_fault(is_in(&comparison.merged, self, entry), verdict) {
+            return Err(fault);
+        }
+        let mut changed = self.copy()?;
+        changed.set(item, verdict)?;
+        if let Some(fault) = stepped_fault(
+            alloc, snapshot, comparison, doc, conf, &changed, entry,
+        )? {
+            return Err(fault);
+        }
+        *self = changed;
+        Ok(())
+    }
+
+    /// Takes the verdict on an item away, as `undecide` does, by a comparison of the snapshot that is kept. Asked and
+    /// cost: as of `decide_by`.
+    pub fn undecide_by(
+        &mut self,
+        snapshot: &Snapshot,
+        comparison: &Comparison,
+        doc: &Doc,
+        conf: &Conf,
+        item: ItemId,
+    ) -> Result<(), DecisionFault>
+        requires compared { IsComparison comparison.now snapshot.now }
+        requires obey { All (λ row. Obeys conf.now (length doc.now) row.1) snapshot.now }
+        requires stand { decision_fault conf.now (length doc.now) (readings snapshot.now) self.old ≡ None }
+        ensures decided { OnOk result (self.new ≡ without_verdict self.old item) }
+        ensures kept { OnErr result (self.new ≡ self.old) }
+        ensures accepted { OnOk result (undecide_fault conf.now (length doc.now) (readings snapshot.now) self.old item ≡ None) }
+        ensures refused { IfErr result (IsFirstFault (undecide_fault conf.now (length doc.now) (readings snapshot.now) self.old item)) }
+        ensures obeys { OnOk result (Obeys conf.now (length doc.now) (curated (readings snapshot.now) self.new)) }
+    {
+        decisions_are_judged_by_items();
+        let _holders = snapshot.count();
+        let alloc = self.allocator();
+        let Some(entry) = entry_as(comparison.merged.firsts.as_slice(), item) else {
+            return Err(DecisionFault::NoItem);
+        };
+        if self.verdict(item).is_none() {
+            return Err(DecisionFault::NotDecided);
+        }
+        let mut changed = self.copy()?;
+        changed.unset(item);
+        if let Some(fault) = stepped_fault(
+            alloc, snapshot, comparison, doc, conf, &changed, entry,
+        )? {
             return Err(fault);
         }
         *self = changed;
@@ -234,17 +366,18 @@ impl Decisions {
         ensures obeys { OnOk result (Obeys conf.now (length doc.now) (curated (readings snapshot.now) pairs.now)) }
     {
         let decisions = Decisions::of_pairs(alloc, pairs)?;
-        let merged = Merged::of(alloc, snapshot)?;
+        let comparison = Comparison::of(alloc, snapshot)?;
+        let merged = &comparison.merged;
         let whole = all_items(alloc, merged.firsts.as_slice(), pairs)?;
         if !whole {
             return Err(DecisionFault::NoItem);
         }
-        let all = all_places(alloc, merged.rows.as_slice())?;
-        let flags = needed_places(alloc, snapshot, &merged, all.as_slice(), &decisions)?;
-        if let Some(other) = lacked(&merged, &decisions, flags.as_slice()) {
+        let places = comparison.places.as_slice();
+        let flags = needed_places(alloc, snapshot, merged, places, &decisions)?;
+        if let Some(other) = lacked(merged, &decisions, flags.as_slice()) {
             return Err(DecisionFault::NeedsItem(other.item));
         }
-        if let Some(fault) = layer_fault(alloc, snapshot, &merged, doc, conf, &decisions)? {
+        if let Some(fault) = layer_fault(alloc, snapshot, merged, doc, conf, &decisions)? {
             return Err(fault);
         }
         Ok(decisions)

@@ -4,7 +4,9 @@
 //! are in, numbered anew, and the unanimous classes whose members are all in.
 #![tactic(auto)]
 
+mod beside;
 mod building;
+mod comparison;
 mod curated_laws;
 mod decided_laws;
 mod deciding;
@@ -17,6 +19,7 @@ mod renaming;
 mod verdict;
 mod worked_rows;
 
+pub use crate::comparison::Comparison;
 pub use crate::curated_laws::{
     decided_layers_break_three, decisions_are_judged_by_items, refusals_break_three,
 };

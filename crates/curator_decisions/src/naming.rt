@@ -1,14 +1,15 @@
 //! Which items name which.
-ghost use Rattle.std.specs.Prelude.{◌≡◌, ◌==◌, ◌<◌, ◌∷◌, ◌++◌, ◌||◌, ℕ, [], false, length, map, slice_index_or, IfOk};
+ghost use Rattle.std.specs.Prelude.{◌≡◌, ◌==◌, ◌<◌, ◌∷◌, ◌++◌, ◌||◌, ◌&&◌, ℕ, List, [], false, length, map, slice_index_or, IfOk};
 ghost use Rattle.std.specs.Ordering.{nat_cmp};
 ghost use Rattle.std.specs.BTreeMap.{get};
 ghost use Rattle.std.specs.BTreeSet.{contains};
 ghost use Rattle.std.specs.List.{list_any};
 ghost use Rattle.layer_model.specs.Classes.{rank};
 ghost use Rattle.layer_model.specs.Coherent.{trigger_id};
+ghost use Rattle.unanimous_merge.specs.declared.entry.Entry.{Entry};
 ghost use Rattle.curator_decisions.specs.Decisions.{item_rank};
 ghost use Rattle.curator_decisions.specs.Naming.{dependent_at, entry_as, has_place, ids_named, is_needed_at, lacked_at, missing_at, named_at, places_of_ids};
-ghost use Rattle.curator_decisions.specs.Placing.{AreNames, called};
+ghost use Rattle.curator_decisions.specs.Placing.{AreNames, called, is_in_at};
 
 use crate::decisions::{Decisions, item_rank};
 use crate::numbering::is_in;
@@ -201,26 +202,46 @@ pub(crate) fn missing_of(merged: &Merged, decisions: &Decisions, named: &[u32]) 
     None
 }
 
-/// The lowest item that is in and names a place.
-pub(crate) fn dependent_on(
+/// The places that each item names.
+pub(crate) fn all_named(
     alloc: Global,
     snapshot: &Snapshot,
-    merged: &Merged,
     all: &[BTreeMap<u64, u32>],
+    entries: &[Entry],
+) -> Result<Vec<Vec<u32>>, Memory>
+    ensures { IfOk result (λ names. map (λ of. of.items) names.items ≡ map (named_at snapshot.now all.now) entries.now) }
+{
+    let mut names = Vec::new(alloc);
+    for entry in entries {
+        names.push(named_places(alloc, snapshot, all, *entry)?)?;
+    }
+    Ok(names)
+}
+
+/// Whether an item that names these places is in and names this one.
+fn depends(merged: &Merged, named: &[u32], decisions: &Decisions, entry: Entry, place: u32) -> bool
+    ensures { result ≡ (is_in_at (map (λ row. row.items) merged.now.marks.items) decisions.now entry && has_place named.now place) }
+{
+    has_place(named, place) && is_in(merged, decisions, entry)
+}
+
+/// The lowest item that is in and names a place, where it is told what each item names.
+pub(crate) fn dependent_on(
+    merged: &Merged,
+    names: &[Vec<u32>],
     decisions: &Decisions,
     place: u32,
-) -> Result<Option<Entry>, Memory>
-    ensures { IfOk result (λ found. found ≡ dependent_at (named_at snapshot.now all.now) (map (λ row. row.items) merged.now.marks.items) decisions.now merged.now.firsts.items place) }
+) -> Option<Entry>
+    requires { length names.now ≡ length merged.now.firsts.items }
+    ensures { (named : Entry → List ℕ) → map (λ of. of.items) names.now ≡ map named merged.now.firsts.items → result ≡ dependent_at named (map (λ row. row.items) merged.now.marks.items) decisions.now merged.now.firsts.items place }
 {
-    for other in &merged.firsts {
-        if is_in(merged, decisions, *other) {
-            let named = named_places(alloc, snapshot, all, *other)?;
-            if has_place(named.as_slice(), place) {
-                return Ok(Some(*other));
-            }
+    for i in 0..merged.firsts.len() {
+        let other = merged.firsts[i];
+        if depends(merged, names[i].as_slice(), decisions, other, place) {
+            return Some(other);
         }
     }
-    Ok(None)
+    None
 }
 
 /// Flags these places.

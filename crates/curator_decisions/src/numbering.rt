@@ -57,7 +57,7 @@ fn letter_place(kind: Kind) -> usize
 }
 
 /// The letter under which a curated layer has an annotation: A stands for M.
-fn curated_letter(kind: Kind) -> Kind
+pub(crate) fn curated_letter(kind: Kind) -> Kind
     ensures { result ≡ curated_letter kind }
 {
     match kind {

@@ -11,33 +11,33 @@ use Rattle.curator_decisions.proofs.decisions.Decisions.decide.Goals as goal
 
 pub returns-in_default-clause-refused : goal.returns-in_default-clause-refused
 returns-in_default-clause-refused c =
-    decide_none c.args.conf.now (length c.args.doc.now) c.args.snapshot.now c.in_ok-merged.merged c.in_ok-merged.ensures c.args.self.now c.args.item c.args.verdict (c.in_default.ensures ∙ ap (λ es. entry_as es c.args.item) c.as_slice.ensures.value)
+    decide_none c.args.conf.now (length c.args.doc.now) c.args.snapshot.now c.in_ok-comparison.comparison.merged c.in_ok-comparison.ensures.merged c.args.self.now c.args.item c.args.verdict (c.in_default.ensures ∙ ap (λ es. entry_as es c.args.item) c.as_slice.ensures.value)
 
 pub returns-in-Some-verdict_fault-clause-refused : goal.returns-in-Some-verdict_fault-clause-refused
 returns-in-Some-verdict_fault-clause-refused c =
     let conf = c.args.conf.now in
     let n = length c.args.doc.now in
     let snapshot = c.args.snapshot.now in
-    let merged = c.in_ok-merged.merged in
+    let merged = c.in_ok-comparison.comparison.merged in
     let after = with_verdict c.args.self.now c.args.item c.args.verdict in
     told (decide_fault conf n (readings snapshot) c.args.self.now c.args.item c.args.verdict) c.in-Some-verdict_fault.fault
-    (decide_some conf n snapshot merged c.in_ok-merged.ensures c.args.self.now c.args.item c.args.verdict c.in-Some.entry (c.in-Some.ensures ∙ ap (λ es. entry_as es c.args.item) c.as_slice.ensures.value) c.is_in.result c.is_in.ensures
+    (decide_some conf n snapshot merged c.in_ok-comparison.ensures.merged c.args.self.now c.args.item c.args.verdict c.in-Some.entry (c.in-Some.ensures ∙ ap (λ es. entry_as es c.args.item) c.as_slice.ensures.value) c.is_in.result c.is_in.ensures
     ∙ ap (λ o. option_or o (changed_fault conf n (readings snapshot) after (held_at merged.table c.in-Some.entry))) (sym c.in-Some-verdict_fault.ensures))
 
 pub changed_fault-requires-clause-entry : goal.changed_fault-requires-clause-entry
 changed_fault-requires-clause-entry c =
-    found_good c.args.snapshot.now c.in_ok-merged.merged c.in_ok-merged.ensures c.args.item c.in-Some.entry (sym (c.in-Some.ensures ∙ ap (λ es. entry_as es c.args.item) c.as_slice.ensures.value))
+    found_good c.args.snapshot.now c.in_ok-comparison.comparison.merged c.in_ok-comparison.ensures.merged c.args.item c.in-Some.entry (sym (c.in-Some.ensures ∙ ap (λ es. entry_as es c.args.item) c.as_slice.ensures.value))
 
 pub returns-in-Some-2-clause-refused : goal.returns-in-Some-2-clause-refused
 returns-in-Some-2-clause-refused c =
     let conf = c.args.conf.now in
     let n = length c.args.doc.now in
     let snapshot = c.args.snapshot.now in
-    let merged = c.in_ok-merged.merged in
+    let merged = c.in_ok-comparison.comparison.merged in
     let after = with_verdict c.args.self.now c.args.item c.args.verdict in
     let is : c.set.new.self ≡ after = c.in_ok-set.ensures.ok ∙ ap (λ (d : Decided). with_verdict d c.args.item c.args.verdict) c.in_ok-changed.ensures in
     told (decide_fault conf n (readings snapshot) c.args.self.now c.args.item c.args.verdict) c.in-Some-2.fault
-    (decide_some conf n snapshot merged c.in_ok-merged.ensures c.args.self.now c.args.item c.args.verdict c.in-Some.entry (c.in-Some.ensures ∙ ap (λ es. entry_as es c.args.item) c.as_slice.ensures.value) c.is_in.result c.is_in.ensures
+    (decide_some conf n snapshot merged c.in_ok-comparison.ensures.merged c.args.self.now c.args.item c.args.verdict c.in-Some.entry (c.in-Some.ensures ∙ ap (λ es. entry_as es c.args.item) c.as_slice.ensures.value) c.is_in.result c.is_in.ensures
     ∙ ap (λ o. option_or o (changed_fault conf n (readings snapshot) after (held_at merged.table c.in-Some.entry))) (sym c.in_default-verdict_fault.ensures)
     ∙ ap (λ (d : Decided). changed_fault conf n (readings snapshot) d (held_at merged.table c.in-Some.entry)) (sym is) ∙ sym c.in_ok-fault.ensures.fault ∙ c.in-Some-2.is)
 
@@ -49,10 +49,10 @@ returns-clause-accepted c =
     let conf = c.args.conf.now in
     let n = length c.args.doc.now in
     let snapshot = c.args.snapshot.now in
-    let merged = c.in_ok-merged.merged in
+    let merged = c.in_ok-comparison.comparison.merged in
     let after = with_verdict c.args.self.now c.args.item c.args.verdict in
     let is : c.set.new.self ≡ after = c.in_ok-set.ensures.ok ∙ ap (λ (d : Decided). with_verdict d c.args.item c.args.verdict) c.in_ok-changed.ensures in
-    decide_some conf n snapshot merged c.in_ok-merged.ensures c.args.self.now c.args.item c.args.verdict c.in-Some.entry (c.in-Some.ensures ∙ ap (λ es. entry_as es c.args.item) c.as_slice.ensures.value) c.is_in.result c.is_in.ensures
+    decide_some conf n snapshot merged c.in_ok-comparison.ensures.merged c.args.self.now c.args.item c.args.verdict c.in-Some.entry (c.in-Some.ensures ∙ ap (λ es. entry_as es c.args.item) c.as_slice.ensures.value) c.is_in.result c.is_in.ensures
     ∙ ap (λ o. option_or o (changed_fault conf n (readings snapshot) after (held_at merged.table c.in-Some.entry))) (sym c.in_default-verdict_fault.ensures)
     ∙ ap (λ (d : Decided). changed_fault conf n (readings snapshot) d (held_at merged.table c.in-Some.entry)) (sym is) ∙ sym c.in_ok-fault.ensures.fault ∙ c.in_default-2.is
 
