@@ -61,6 +61,18 @@ bob,cid,relations,0,0,0,0,0,undefined' scores news.book
 expect $'Ann\tB-Person\nmet\tO\nBob\tB-Person\nin\tO\nRome\tO' columns-out news.book ann rome
 "$annotate" session news.book <"$here/curate.http" >/dev/null
 expect $'T1\tPerson 0 3\tAnn\nT2\tPerson 8 11\tBob\nT3\tLocation 15 19\tRome\nR1\tLocated Arg1:T1 Arg2:T3' curated news.book 1
+expect 'document,annotator,revision,state,ignored,annotations,parked
+lima,ann,0,none,false,0,0
+lima,bob,0,none,false,0,0
+lima,cid,0,none,false,0,0
+oslo,ann,0,none,false,0,0
+oslo,bob,1,open,false,3,0
+oslo,cid,0,none,false,0,0
+rome,ann,1,finished,false,2,0
+rome,bob,1,finished,false,6,0
+rome,cid,0,none,false,0,0' progress news.book
+expect 'snapshot,document,holders,items,unanimous,accepted,rejected,undecided
+1,rome,2,6,2,2,0,2' snapshots news.book
 
 # A session is killed while it commits. Behind that the project opens, and has the change where it was answered.
 there=

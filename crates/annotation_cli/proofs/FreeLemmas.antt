@@ -5,7 +5,7 @@ use Rattle.std.specs.Bool.{Decides}
 use Rattle.std.proofs.lemmas.Slice.Eq.{bytes_eq-Decides}
 use Rattle.named_disks.specs.NamedDisks.{IsIn, KeepsAll, KeepsNames, KeepsOthers, Stored, is_out, is_there}
 use Rattle.named_disks.specs.NameLaws.{keeps_those}
-use Rattle.command_words.specs.Asked.{BookCommand, Found, Add, Import, Export, ColumnsOut, Agree, Scores, Curated, IsChangedOn, file_in}
+use Rattle.command_words.specs.Asked.{BookCommand, Found, Add, Import, Export, ColumnsOut, Agree, Scores, Progress, Snapshots, Curated, IsChangedOn, file_in}
 
 false_true : ◌≡◌ {A = Bool} false true → ⊥
 false_true same = cc
@@ -35,6 +35,8 @@ free_behind (Export book who named) name stored stored_now out out_now kept befo
 free_behind (ColumnsOut book who named) name stored stored_now out out_now kept before back = free_still name stored stored_now out out_now (keeps_those (λ n _. λ none. none) kept) before
 free_behind (Agree book) name stored stored_now out out_now kept before back = free_still name stored stored_now out out_now (keeps_those (λ n _. λ none. none) kept) before
 free_behind (Scores book) name stored stored_now out out_now kept before back = free_still name stored stored_now out out_now (keeps_those (λ n _. λ none. none) kept) before
+free_behind (Progress book) name stored stored_now out out_now kept before back = free_still name stored stored_now out out_now (keeps_those (λ n _. λ none. none) kept) before
+free_behind (Snapshots book) name stored stored_now out out_now kept before back = free_still name stored stored_now out out_now (keeps_those (λ n _. λ none. none) kept) before
 free_behind (Curated book number) name stored stored_now out out_now kept before back = free_still name stored stored_now out out_now (keeps_those (λ n _. λ none. none) kept) before
 
 -- there is a disk of each name as before, where one is there as before and the others are kept

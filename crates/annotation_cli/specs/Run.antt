@@ -8,13 +8,15 @@ use Rattle.project_commands.specs.Commands.Trying.{TryTold}
 use Rattle.annotation_cli.specs.Help.{HelpTold, VersionTold}
 use Rattle.annotation_cli.specs.Printing.{Prints}
 use Rattle.demo_project.specs.Demos.{DemoTold}
+use Rattle.program_inputs.specs.ProjectFiles.ProjectFiles.{NotOpened}
 use Rattle.project_commands.specs.Founding.{Founds, NotFounded}
 use Rattle.project_commands.specs.Adding.{Adds, NotAdded}
 use Rattle.project_commands.specs.Importing.{Imports, NotImported}
 use Rattle.project_commands.specs.Showing.{Agrees, Exports, NoSnapshot, NotAgreed, NotExported, ShowsSnapshot}
+use Rattle.project_commands.specs.Reporting.{PrintsProgress, PrintsSnapshots}
 use Rattle.project_commands.specs.Scoring.{NotScored, PrintsScores}
 use Rattle.project_commands.specs.Sessions.{SessionTold}
-use Rattle.command_words.specs.Asked.{BookCommand, Found, Add, Import, Export, ColumnsOut, Agree, Scores, Curated, Command, Help, Version, Try, Verify, ColumnsIn, Compact, Demo, Session, OnBook, IsChangedBy, command_of}
+use Rattle.command_words.specs.Asked.{BookCommand, Found, Add, Import, Export, ColumnsOut, Agree, Scores, Progress, Snapshots, Curated, Command, Help, Version, Try, Verify, ColumnsIn, Compact, Demo, Session, OnBook, IsChangedBy, command_of}
 use Rattle.annotation_cli.specs.ColumnsIn.{ColumnsTold}
 use Rattle.project_commands.specs.ColumnsOut.{NoColumns, PrintsColumns}
 use Rattle.project_commands.specs.Compacting.{Compacts, NotCompacted}
@@ -49,6 +51,8 @@ Finds file (ColumnsOut book who name) before now stored stored_now found =
     MatchResult found (PrintsColumns (reads_as stored book) who name) (NoColumns (reads_as stored book) who name)
 Finds file (Agree book) before now stored stored_now found = MatchResult found (Agrees (reads_as stored book)) (NotAgreed (reads_as stored book))
 Finds file (Scores book) before now stored stored_now found = MatchResult found (PrintsScores (reads_as stored book)) (NotScored (reads_as stored book))
+Finds file (Progress book) before now stored stored_now found = MatchResult found (PrintsProgress (reads_as stored book)) (NotOpened (reads_as stored book))
+Finds file (Snapshots book) before now stored stored_now found = MatchResult found (PrintsSnapshots (reads_as stored book)) (NotOpened (reads_as stored book))
 Finds file (Curated book number) before now stored stored_now found =
     MatchResult found (ShowsSnapshot (reads_as stored book) number) (NoSnapshot (reads_as stored book) number)
 

@@ -11,7 +11,7 @@ use named_disks::Disks;
 use program_inputs::{Folder, Trouble};
 use project_commands::{
     add_document, export_layer, found_in_file, import_file, show_agreement, show_columns,
-    show_curated, show_scores,
+    show_curated, show_progress, show_scores, show_snapshots,
 };
 use std::alloc::Global;
 use std::sync::ledger::Ledger;
@@ -63,6 +63,8 @@ pub(crate) fn find<F: Folder, D: Disks, G: Ledger>(
         }
         BookJob::Agree { book } => show_agreement(alloc, book, disks, steps),
         BookJob::Scores { book } => show_scores(alloc, book, disks, steps),
+        BookJob::Progress { book } => show_progress(alloc, book, disks),
+        BookJob::Snapshots { book } => show_snapshots(alloc, book, disks),
         BookJob::Curated { book, number } => {
             show_curated(alloc, book, u64::from(number), disks, steps)
         }

@@ -32,6 +32,10 @@ BOOK, OLD and NEW are files of projects. Each other file is only read. --version
       annotate agree news.book
   scores BOOK                    prints the exact-match scores of each two annotators
       annotate scores news.book
+  progress BOOK                  prints how far each annotator is on each document
+      annotate progress news.book
+  snapshots BOOK                 prints how far each snapshot is decided
+      annotate snapshots news.book
   curated BOOK NUMBER            prints the curated layer of a snapshot as .ann lines
       annotate curated news.book 1
   compact OLD NEW                makes a file that begins with the state of the project
@@ -45,7 +49,8 @@ BOOK, OLD and NEW are files of projects. Each other file is only read. --version
 
 Status 0: done. 1: a fault of an .ann file, or of the configuration beside it. 2: no command.
 3: a file at fault, or the project refuses. 4, 5, 6: a device failed, or (4) another process has
-the project: only export, columns-out, agree, scores, curated and OLD work beside a server. 7: no memory.
+the project: only export, columns-out, agree, scores, progress, snapshots, curated and OLD work
+beside a server. 7: no memory.
 docs/getting-started.md is a first project; docs/operating.md says what each line of complaint means.
 ";
 

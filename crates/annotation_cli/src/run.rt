@@ -143,6 +143,8 @@ fn looks_for_faults(job: &Option<Job<'_>>) -> bool
 /// | `columns-out BOOK WHO NAME` | | the committed layer as token and label columns |
 /// | `agree BOOK` | | both tables of agreement, with an empty line between |
 /// | `scores BOOK` | | the exact-match scores of each two annotators |
+/// | `progress BOOK` | | how far each annotator is on each document |
+/// | `snapshots BOOK` | | how far each snapshot is decided |
 /// | `curated BOOK NUMBER` | | the curated layer of a snapshot as .ann lines |
 /// | `compact BOOK MADE` | another file becomes a journal that begins with the state of the project | `place 2` |
 /// | `demo NUMBER` | a project in memory is founded and served 36,642 requests that follow from the number, as one connection | the summary |

@@ -3,7 +3,7 @@ use Rattle.std.proofs.Common.{◌≡◌, ℕ, Bool, true, false, List, [], ◌�
 use Rattle.std.specs.Prelude.{bytes_eq, codes, option_and_then, option_map}
 use Rattle.std.specs.Bool.{Decides}
 use Rattle.std.proofs.lemmas.Slice.Eq.{bytes_eq-Decides}
-use Rattle.command_words.specs.Asked.{Command, BookCommand, Help, Version, Session, Compact, OnBook, Agree, Scores, Curated, Export, ColumnsOut, Try, Verify, ColumnsIn, Found, Add, Import, NamesTwo, alone, with_one, with_two, with_three, with_four, compact_of, curated_of, demo_of, export_of, columns_of, add_of, import_of, found_at, unless_hyphens, has_hyphen, is_slug, number_read, level_of, command_of}
+use Rattle.command_words.specs.Asked.{Command, BookCommand, Help, Version, Session, Compact, OnBook, Agree, Scores, Progress, Snapshots, Curated, Export, ColumnsOut, Try, Verify, ColumnsIn, Found, Add, Import, NamesTwo, alone, with_one, with_two, with_three, with_four, compact_of, curated_of, demo_of, export_of, columns_of, add_of, import_of, found_at, unless_hyphens, has_hyphen, is_slug, number_read, level_of, command_of}
 
 false_true : ◌≡◌ {A = Bool} false true → ⊥
 false_true same = cc
@@ -40,7 +40,9 @@ of_one name a =
     either (bytes_eq name (codes "session")) (Some (Session a)) _ tt
     (either (bytes_eq name (codes "agree")) (Some (OnBook (Agree a))) _ tt
     (either (bytes_eq name (codes "scores")) (Some (OnBook (Scores a))) _ tt
-    (either (bytes_eq name (codes "demo")) (demo_of (number_read a)) None (demonstrated (number_read a)) tt)))
+    (either (bytes_eq name (codes "progress")) (Some (OnBook (Progress a))) _ tt
+    (either (bytes_eq name (codes "snapshots")) (Some (OnBook (Snapshots a))) _ tt
+    (either (bytes_eq name (codes "demo")) (demo_of (number_read a)) None (demonstrated (number_read a)) tt)))))
 
 of_two : (name a b : List ℕ) → NamesTwo (with_two name a b)
 of_two name a b =

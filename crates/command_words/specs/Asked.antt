@@ -17,6 +17,8 @@ pub data BookCommand : Type 0 where
   ColumnsOut : (book who name : List ℕ) → BookCommand
   Agree : (book : List ℕ) → BookCommand
   Scores : (book : List ℕ) → BookCommand
+  Progress : (book : List ℕ) → BookCommand
+  Snapshots : (book : List ℕ) → BookCommand
   Curated : (book : List ℕ) (number : ℕ) → BookCommand
 
 -- a command, with the words behind its name
@@ -69,6 +71,8 @@ with_one name a =
     if bytes_eq name (codes "session") then Some (Session a)
     else if bytes_eq name (codes "agree") then Some (OnBook (Agree a))
     else if bytes_eq name (codes "scores") then Some (OnBook (Scores a))
+    else if bytes_eq name (codes "progress") then Some (OnBook (Progress a))
+    else if bytes_eq name (codes "snapshots") then Some (OnBook (Snapshots a))
     else if bytes_eq name (codes "demo") then demo_of (number_read a) else None
 
 -- the curated layer of a snapshot of this number
@@ -146,6 +150,8 @@ book_command_in (on.Export book who name) = Export book.now who name
 book_command_in (on.ColumnsOut book who name) = ColumnsOut book.now who name
 book_command_in (on.Agree book) = Agree book.now
 book_command_in (on.Scores book) = Scores book.now
+book_command_in (on.Progress book) = Progress book.now
+book_command_in (on.Snapshots book) = Snapshots book.now
 book_command_in (on.Curated book number) = Curated book.now number
 
 -- the command of a job
@@ -169,6 +175,8 @@ file_in (Export book who name) = book
 file_in (ColumnsOut book who name) = book
 file_in (Agree book) = book
 file_in (Scores book) = book
+file_in (Progress book) = book
+file_in (Snapshots book) = book
 file_in (Curated book number) = book
 
 -- a command that works on two files names two
@@ -185,6 +193,8 @@ IsChangedOn (Export book who named) name = ⊥
 IsChangedOn (ColumnsOut book who named) name = ⊥
 IsChangedOn (Agree book) name = ⊥
 IsChangedOn (Scores book) name = ⊥
+IsChangedOn (Progress book) name = ⊥
+IsChangedOn (Snapshots book) name = ⊥
 IsChangedOn (Curated book number) name = ⊥
 
 -- a file on a disk that the words' command may change

@@ -51,6 +51,14 @@ pub enum BookJob<'w> {
     Scores {
         book: &'w str,
     },
+    /// How far each annotator is on each document.
+    Progress {
+        book: &'w str,
+    },
+    /// How far each snapshot is decided.
+    Snapshots {
+        book: &'w str,
+    },
     /// The curated layer of a snapshot.
     Curated {
         book: &'w str,
@@ -207,6 +215,12 @@ fn with_one<'w>(name: &str, a: &'w str) -> Option<Job<'w>>
     }
     if name == "scores" {
         return Some(Job::Book(BookJob::Scores { book: a }));
+    }
+    if name == "progress" {
+        return Some(Job::Book(BookJob::Progress { book: a }));
+    }
+    if name == "snapshots" {
+        return Some(Job::Book(BookJob::Snapshots { book: a }));
     }
     if name == "demo" {
         return demo_of(a);

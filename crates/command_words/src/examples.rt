@@ -1,6 +1,6 @@
 //! The definitions of words on a few examples.
 ghost use Rattle.std.specs.Prelude.{◌≡◌, ◌∷◌, [], None, Some, codes};
-ghost use Rattle.command_words.specs.Asked.{command_of, Agree, ColumnsIn, Compact, Curated, Found, Help, OnBook, Scores, Session, Try, Verify, Version};
+ghost use Rattle.command_words.specs.Asked.{command_of, Agree, ColumnsIn, Compact, Curated, Found, Help, OnBook, Progress, Scores, Session, Snapshots, Try, Verify, Version};
 
 /// Which words are a command.
 pub fn examples_of_words()
@@ -24,6 +24,9 @@ pub fn examples_of_words()
     ensures one { command_of (codes "session" ∷ codes "b" ∷ []) ≡ Some (Session (codes "b")) }
     ensures agreed { command_of (codes "agree" ∷ codes "b" ∷ []) ≡ Some (OnBook (Agree (codes "b"))) }
     ensures scored { command_of (codes "scores" ∷ codes "b" ∷ []) ≡ Some (OnBook (Scores (codes "b"))) }
+    ensures progressed { command_of (codes "progress" ∷ codes "b" ∷ []) ≡ Some (OnBook (Progress (codes "b"))) }
+    ensures shot { command_of (codes "snapshots" ∷ codes "b" ∷ []) ≡ Some (OnBook (Snapshots (codes "b"))) }
+    ensures shot_of_a_number { command_of (codes "snapshots" ∷ codes "b" ∷ codes "1" ∷ []) ≡ None }
     ensures apart { command_of (codes "compact" ∷ codes "b" ∷ codes "n" ∷ []) ≡ Some (Compact (codes "b") (codes "n")) }
     ensures itself { command_of (codes "compact" ∷ codes "b" ∷ codes "b" ∷ []) ≡ None }
     ensures two { command_of (codes "verify" ∷ codes "a" ∷ codes "b" ∷ []) ≡ None }

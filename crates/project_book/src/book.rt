@@ -3,7 +3,7 @@ ghost use Rattle.std.specs.Prelude.{◌≡◌, length, option_map};
 ghost use Rattle.std.specs.Option.{option_copied};
 ghost use Rattle.project_machine.specs.Asking.{IsKeptBy};
 ghost use Rattle.project_machine.specs.History.{after, last};
-ghost use Rattle.project_machine.specs.Legal.{HasRoom, IsLegal};
+ghost use Rattle.project_machine.specs.Legal.{HasRoom, IsKept, IsLegal};
 ghost use Rattle.project_machine.specs.ProjectState.{snapshot_of};
 ghost use Rattle.project_book.specs.Keeping.{AreTables};
 
@@ -12,7 +12,7 @@ use kappa_alpha::Tables;
 use label_tracks::Groups;
 use layer_model::Snapshot;
 use project_journal::Keeper;
-use project_state::{BookState, Roster, StoredSnapshot};
+use project_state::{BookState, Roster, StoredSnapshot, states_can_be_restored};
 use std::alloc::Global;
 use std::marker::Model;
 
@@ -64,6 +64,15 @@ impl<K: Keeper> Book<K> {
         ensures kept { IsKeptBy self.now.log (K.kept self.now.keeper) (K.doubt self.now.keeper) }
     {
         let _log = &self.log;
+    }
+
+    /// The state after the last change, to be read.
+    pub fn state(&self) -> &BookState
+        ensures same { result.now.state ≡ after self.now.log }
+        ensures kept { IsKept result.now.state }
+    {
+        states_can_be_restored();
+        &self.state
     }
 
     /// The place of the last change. The founding stands at 1.

@@ -4,6 +4,7 @@ pub mod ColumnsOut
 pub mod Compacting
 pub mod Founding
 pub mod Importing
+pub mod Reporting
 pub mod Scoring
 pub mod Sessions
 pub mod Showing

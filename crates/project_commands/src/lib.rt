@@ -19,6 +19,7 @@ mod commands;
 mod compacting;
 mod founding;
 mod importing;
+mod reporting;
 mod scoring;
 mod sessions;
 mod showing;
@@ -32,6 +33,7 @@ pub use crate::commands::{
 pub use crate::compacting::compact;
 pub use crate::founding::found_in_file;
 pub use crate::importing::import_file;
+pub use crate::reporting::{show_progress, show_snapshots};
 pub use crate::scoring::show_scores;
 pub use crate::sessions::serve_session;
 pub use crate::showing::{export_layer, show_curated};
