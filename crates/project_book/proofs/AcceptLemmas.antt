@@ -15,7 +15,7 @@ use Rattle.curator_decisions.specs.Undecided.{UndecidedLayersAreAccepted}
 use Rattle.project_machine.specs.declared.book_refusal.BookRefusal.{BookRefusal}
 use Rattle.project_machine.specs.declared.book_refusal.BookRefusal.TheVariants as no
 use Rattle.project_machine.specs.ProjectState.{Row, Document, Snapshot, ProjectState, document, no_document, no_snapshot, number_of, finished_rows, snapshot, text_of, item_in}
-use Rattle.project_machine.specs.Requests.{Asked, ReadConf, ListDocs, ReadText, AddText, Checkout, TakeOver, Commit, Park, Finish, ReadLayer, Reopen, Ignore, Readmit, Snap, TakeSnapshot, Decide, Undecide, ReadPairs, ReadAlpha, Happened, TextAdded, CheckedOut, TakenOver, LayerCommitted, LayerParked, LayerFinished, LayerReopened, LayerIgnored, LayerReadmitted, SnapshotTaken, ItemDecided, ItemUndecided, AllFreed}
+use Rattle.project_machine.specs.Requests.{Asked, ReadConf, ListDocs, ReadText, AddText, Checkout, TakeOver, Commit, Park, Finish, ReadLayer, Reopen, Ignore, Readmit, Snap, TakeSnapshot, Decide, Undecide, ReadPairs, ReadAlpha, ReadReport, Happened, TextAdded, CheckedOut, TakenOver, LayerCommitted, LayerParked, LayerFinished, LayerReopened, LayerIgnored, LayerReadmitted, SnapshotTaken, ItemDecided, ItemUndecided, AllFreed}
 use Rattle.project_machine.specs.Machine.{decidable, holds, step, taken, undecidable}
 use Rattle.project_machine.specs.History.{after, effect, freed, new_snapshot, on_row, on_snapshot, place_behind, under_hold, with_commit, with_decision, with_draft, with_finished, with_ignored, without_decision}
 use Rattle.project_machine.specs.Legal.{AreAccepted, IsAccepted, IsKept, IsLegal, IsSnapshotKept, legal_founding, legal_restored, legal_step, legal_freeing}
@@ -91,6 +91,7 @@ module _ (decide : AcceptedWithVerdict) (undecide : AcceptedWithoutVerdict) (und
   change_accepted s caller (TakeSnapshot number) e place h k are g = absurd (none_some e g.made)
   change_accepted s caller ReadPairs e place h k are g = absurd (none_some e g.made)
   change_accepted s caller ReadAlpha e place h k are g = absurd (none_some e g.made)
+  change_accepted s caller (ReadReport report) e place h k are g = absurd (none_some e g.made)
   change_accepted s caller (AddText name text) e place h k are g =
       subst (λ x. AreAccepted (effect place x s)) (some_same (TextAdded caller name text) e g.made)
       (all_stay s (effect place (TextAdded caller name text) s) k refl refl (λ doc within. added_text s _ doc within) are)

@@ -22,7 +22,7 @@ use Rattle.project_machine.specs.declared.book_refusal.BookRefusal.{BookRefusal}
 use Rattle.project_machine.specs.declared.book_refusal.BookRefusal.TheVariants as no
 use Rattle.curator_decisions.specs.declared.decision_fault.DecisionFault.TheVariants as fault
 use Rattle.project_machine.specs.ProjectState.{Document, Snapshot, ProjectState, document, holder_of, is_annotator, is_curator, is_holder, is_some_out, is_there, no_document, no_snapshot, number_of, snapshot}
-use Rattle.project_machine.specs.Requests.{Asked, ReadConf, ListDocs, ReadText, AddText, Checkout, TakeOver, Commit, Park, Finish, ReadLayer, Reopen, Ignore, Readmit, Snap, TakeSnapshot, Decide, Undecide, ReadPairs, ReadAlpha, Happened, TextAdded, CheckedOut, TakenOver, LayerCommitted, LayerParked, LayerFinished, LayerReopened, LayerIgnored, LayerReadmitted, SnapshotTaken, ItemDecided, ItemUndecided, AllFreed}
+use Rattle.project_machine.specs.Requests.{Asked, ReadConf, ListDocs, ReadText, AddText, Checkout, TakeOver, Commit, Park, Finish, ReadLayer, Reopen, Ignore, Readmit, Snap, TakeSnapshot, Decide, Undecide, ReadPairs, ReadAlpha, ReadReport, Happened, TextAdded, CheckedOut, TakenOver, LayerCommitted, LayerParked, LayerFinished, LayerReopened, LayerIgnored, LayerReadmitted, SnapshotTaken, ItemDecided, ItemUndecided, AllFreed}
 use Rattle.command_bytes.specs.CommandValues.{IsTypedLayer}
 use Rattle.project_machine.specs.RequestValues.{IsAsked, IsDocText}
 use Rattle.project_machine.specs.Entries.{encoded_text, entry_of, founding_entry, lines_in}
@@ -161,6 +161,7 @@ change_is written s caller (ReadLayer name who) e k typed g = absurd (none_some 
 change_is written s caller (TakeSnapshot number) e k typed g = absurd (none_some e g.made)
 change_is written s caller ReadPairs e k typed g = absurd (none_some e g.made)
 change_is written s caller ReadAlpha e k typed g = absurd (none_some e g.made)
+change_is written s caller (ReadReport report) e k typed g = absurd (none_some e g.made)
 change_is written s caller (AddText name text) e k typed g =
     let same : TextAdded caller name text ≡ e = some_same (TextAdded caller name text) e g.made in
     let short : size_in s (TextAdded caller name text) ≤ 16777216 = subst (λ x. size_in s x ≤ 16777216) (sym same) g.short in

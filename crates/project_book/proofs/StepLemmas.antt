@@ -12,7 +12,7 @@ use Rattle.unanimous_merge.specs.Readings.{readings}
 use Rattle.layer_model.specs.Annotations.{Annotations}
 use Rattle.layer_model.specs.declared.rule.Rule.{Rule}
 use Rattle.project_machine.specs.ProjectState.{Row, Snapshot, ProjectState, is_annotator, is_curator, is_there, number_of, row_in, finished_rows, is_untaken, snapshot, text_of, is_holder, item_in}
-use Rattle.project_machine.specs.Requests.{Asked, ReadConf, ListDocs, ReadText, AddText, Checkout, TakeOver, Commit, Park, Finish, ReadLayer, Reopen, Ignore, Readmit, Snap, TakeSnapshot, Decide, Undecide, ReadPairs, ReadAlpha, Answered, Refused, Happened}
+use Rattle.project_machine.specs.Requests.{Asked, ReadConf, ListDocs, ReadText, AddText, Checkout, TakeOver, Commit, Park, Finish, ReadLayer, Reopen, Ignore, Readmit, Snap, TakeSnapshot, Decide, Undecide, ReadPairs, ReadAlpha, ReadReport, Answered, Refused, Happened}
 use Rattle.project_machine.specs.Machine.{Step, annotators_only, commit_rule, curators_only, enough, has_layer, held, holds, is_full, of_text, park_rule, size_of, taken, there, when, first_of, policies, tests, refusal, refused, reply, change, bounded, unless, size_in, step}
 
 -- it is the keeper that fails
@@ -94,6 +94,7 @@ policies_not s caller (Decide number holder id verdict) = curators_not s caller
 policies_not s caller (Undecide number holder id) = curators_not s caller
 policies_not s caller ReadPairs = curators_not s caller
 policies_not s caller ReadAlpha = curators_not s caller
+policies_not s caller (ReadReport report) = curators_not s caller
 
 tests_none : (s : ProjectState) (caller : List ℕ) (asked : Asked) → NoneKeeper (tests s caller asked)
 tests_none s caller ReadConf = tt
@@ -115,6 +116,7 @@ tests_none s caller (Decide number holder id verdict) = (taken_not s number, (ho
 tests_none s caller (Undecide number holder id) = (taken_not s number, (holds_not (snapshot s number) holder, (decision_not (undecide_fault s.conf (length (text_of s (snapshot s number))) (readings (snapshot s number).holders) (snapshot s number).verdicts (item_in (snapshot s number) holder id)), tt)))
 tests_none s caller ReadPairs = tt
 tests_none s caller ReadAlpha = tt
+tests_none s caller (ReadReport report) = tt
 
 tests_not : (s : ProjectState) (caller : List ℕ) (asked : Asked) → is_keeper (first_of (tests s caller asked)) ≡ false
 tests_not s caller asked = first_not (tests s caller asked) (tests_none s caller asked)
@@ -148,6 +150,7 @@ reply_not s caller (Decide number holder id verdict) = refl
 reply_not s caller (Undecide number holder id) = refl
 reply_not s caller ReadPairs = refl
 reply_not s caller ReadAlpha = refl
+reply_not s caller (ReadReport report) = refl
 
 refused_not : (r : BookRefusal) (named : List ℕ) → is_keeper (Some r) ≡ false → says_keeper (Refused r named) ≡ false
 refused_not no.Keeper named e = e

@@ -3,8 +3,8 @@ use Rattle.std.specs.Prelude.{◌≡◌, ℕ, List, Option}
 use Rattle.project_machine.specs.ProjectState.{ProjectState}
 use Rattle.project_machine.specs.Requests.{Happened}
 use Rattle.project_machine.specs.History.{after}
-use Rattle.project_reports.specs.ProgressTable.{progress_table}
-use Rattle.project_reports.specs.SnapshotsTable.{snapshots_table}
+use Rattle.project_machine.specs.ProgressTable.{progress_table}
+use Rattle.project_machine.specs.SnapshotsTable.{snapshots_table}
 use Rattle.program_inputs.specs.ProjectFiles.ProjectFiles.{OpensAs}
 
 -- a file was read as a project, and these bytes are a table of its state

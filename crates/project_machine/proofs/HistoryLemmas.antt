@@ -4,7 +4,7 @@ use Rattle.std.proofs.lemmas.List.{take-append-le}
 use Rattle.std.proofs.lemmas.Bool.{cases_lt, ltb-false}
 use Rattle.project_machine.specs.declared.book_refusal.BookRefusal.{BookRefusal}
 use Rattle.project_machine.specs.ProjectState.{ProjectState}
-use Rattle.project_machine.specs.Requests.{Asked, ReadConf, ListDocs, ReadText, AddText, Checkout, TakeOver, Commit, Park, Finish, ReadLayer, Reopen, Ignore, Readmit, Snap, TakeSnapshot, Decide, Undecide, ReadPairs, ReadAlpha, Answered, Happened, AllFreed}
+use Rattle.project_machine.specs.Requests.{Asked, ReadConf, ListDocs, ReadText, AddText, Checkout, TakeOver, Commit, Park, Finish, ReadLayer, Reopen, Ignore, Readmit, Snap, TakeSnapshot, Decide, Undecide, ReadPairs, ReadAlpha, ReadReport, Answered, Happened, AllFreed}
 use Rattle.project_machine.specs.Machine.{Step, step, refusal, refused, reply, change, unless, bounded, size_in}
 use Rattle.project_machine.specs.History.{after, after_places, numbered_from, begin, effect, last, place_behind, unfounded, upto}
 use Rattle.project_machine.specs.Legal.{HasRoom, IsLegal, legal_founding, legal_restored, legal_step, legal_freeing}
@@ -76,6 +76,7 @@ change_next s caller (Decide number holder id verdict) n = refl
 change_next s caller (Undecide number holder id) n = refl
 change_next s caller ReadPairs n = refl
 change_next s caller ReadAlpha n = refl
+change_next s caller (ReadReport report) n = refl
 
 -- what a step makes happen stands at the next place
 pub step_next : (s : ProjectState) (caller : List ℕ) (asked : Asked) (e : Happened) (n : ℕ) → (step s caller asked).change ≡ Some e → place_behind e n ≡ n + 1

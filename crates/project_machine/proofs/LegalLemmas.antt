@@ -6,7 +6,7 @@ use Rattle.project_machine.specs.declared.book_refusal.BookRefusal.{BookRefusal}
 use Rattle.project_machine.specs.declared.book_refusal.BookRefusal.TheVariants as no
 use Rattle.project_machine.specs.ProjectState.{Document, ProjectState, document, row_in, number_of, annotators, is_annotator, snapshot, holder_of, item_in}
 use Rattle.command_bytes.specs.CommandBytes.{scripts_bytes}
-use Rattle.project_machine.specs.Requests.{Asked, ReadConf, ListDocs, ReadText, AddText, Checkout, TakeOver, Commit, Park, Finish, ReadLayer, Reopen, Ignore, Readmit, Snap, TakeSnapshot, Decide, Undecide, ReadPairs, ReadAlpha, Happened, TextAdded, CheckedOut, TakenOver, LayerCommitted, LayerParked, LayerFinished, LayerReopened, LayerIgnored, LayerReadmitted, SnapshotTaken, ItemDecided, ItemUndecided, AllFreed}
+use Rattle.project_machine.specs.Requests.{Asked, ReadConf, ListDocs, ReadText, AddText, Checkout, TakeOver, Commit, Park, Finish, ReadLayer, Reopen, Ignore, Readmit, Snap, TakeSnapshot, Decide, Undecide, ReadPairs, ReadAlpha, ReadReport, Happened, TextAdded, CheckedOut, TakenOver, LayerCommitted, LayerParked, LayerFinished, LayerReopened, LayerIgnored, LayerReadmitted, SnapshotTaken, ItemDecided, ItemUndecided, AllFreed}
 use Rattle.project_machine.specs.RequestValues.{IsAsked}
 use Rattle.project_machine.specs.Entries.{lines_in}
 use Rattle.project_machine.specs.Machine.{has_layer, size_in, size_of, there}
@@ -38,6 +38,7 @@ change_kept s caller (ReadLayer name who) e place flawless h k typed g = absurd 
 change_kept s caller (TakeSnapshot number) e place flawless h k typed g = absurd (none_some e g.made)
 change_kept s caller ReadPairs e place flawless h k typed g = absurd (none_some e g.made)
 change_kept s caller ReadAlpha e place flawless h k typed g = absurd (none_some e g.made)
+change_kept s caller (ReadReport report) e place flawless h k typed g = absurd (none_some e g.made)
 change_kept s caller (AddText name text) e place flawless h k typed g =
     subst (λ x. IsKept (effect place x s)) (some_same (TextAdded caller name text) e g.made)
     (add_kept s caller name text place (omega arith) flawless k typed.0 typed.1 (add_new s caller name text g.free) (add_room s caller name text g.free))

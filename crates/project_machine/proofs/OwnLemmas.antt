@@ -9,7 +9,7 @@ use Rattle.std.proofs.lemmas.Slice.Eq.{bytes_eq-Decides}
 use Rattle.project_machine.specs.declared.book_refusal.BookRefusal.TheVariants as no
 use Rattle.project_machine.specs.declared.book_refusal.Policy.TheVariants as policy
 use Rattle.project_machine.specs.ProjectState.{Row, Document, ProjectState, blank_row, no_document, row, rater_of, with_row, number_of, annotators, is_annotator, is_curator}
-use Rattle.project_machine.specs.Requests.{Asked, ReadConf, ListDocs, ReadText, AddText, Checkout, TakeOver, Commit, Park, Finish, ReadLayer, Reopen, Ignore, Readmit, Snap, TakeSnapshot, Decide, Undecide, ReadPairs, ReadAlpha, Happened, CheckedOut, TakenOver, LayerCommitted, LayerParked, LayerFinished}
+use Rattle.project_machine.specs.Requests.{Asked, ReadConf, ListDocs, ReadText, AddText, Checkout, TakeOver, Commit, Park, Finish, ReadLayer, Reopen, Ignore, Readmit, Snap, TakeSnapshot, Decide, Undecide, ReadPairs, ReadAlpha, ReadReport, Happened, CheckedOut, TakenOver, LayerCommitted, LayerParked, LayerFinished}
 use Rattle.project_machine.specs.Machine.{step, refusal, change, when}
 use Rattle.project_machine.specs.History.{effect, on_row, under_hold, with_commit, with_draft, with_finished}
 use Rattle.project_machine.proofs.HistoryLemmas.{granted}
@@ -65,6 +65,7 @@ change_other s caller who (Decide number holder id verdict) e place doc lay othe
 change_other s caller who (Undecide number holder id) e place doc lay other free is = absurd (curates s caller lay (allowed s caller (Undecide number holder id) free))
 change_other s caller who ReadPairs e place doc lay other free is = absurd (none_some e is)
 change_other s caller who ReadAlpha e place doc lay other free is = absurd (none_some e is)
+change_other s caller who (ReadReport report) e place doc lay other free is = absurd (none_some e is)
 change_other s caller who (Checkout name) e place doc lay other free is =
     subst (λ x. row (effect place x s) doc who ≡ row s doc who) (some_same (CheckedOut caller (number_of s name)) e is)
     (row_other s (number_of s name) doc caller who (under_hold (Some place)) (annotates s caller (allowed s caller (Checkout name) free)) other)

@@ -8,7 +8,7 @@ use Rattle.std.proofs.lemmas.Slice.Eq.{bytes_eq-Decides}
 use Rattle.project_machine.specs.declared.book_refusal.BookRefusal.TheVariants as no
 use Rattle.project_machine.specs.declared.book_refusal.Policy.TheVariants as policy
 use Rattle.project_machine.specs.ProjectState.{Row, Document, ProjectState, new_document, row, rater_of, annotators, number_of, is_annotator, is_curator, snapshot, holder_of}
-use Rattle.project_machine.specs.Requests.{Asked, ReadConf, ListDocs, ReadText, AddText, Checkout, TakeOver, Commit, Park, Finish, ReadLayer, Reopen, Ignore, Readmit, Snap, TakeSnapshot, Decide, Undecide, ReadPairs, ReadAlpha, Happened, Founded, TextAdded, CheckedOut, TakenOver, LayerCommitted, LayerParked, LayerFinished, LayerReopened, LayerIgnored, LayerReadmitted, SnapshotTaken, ItemDecided, ItemUndecided, AllFreed, Restored}
+use Rattle.project_machine.specs.Requests.{Asked, ReadConf, ListDocs, ReadText, AddText, Checkout, TakeOver, Commit, Park, Finish, ReadLayer, Reopen, Ignore, Readmit, Snap, TakeSnapshot, Decide, Undecide, ReadPairs, ReadAlpha, ReadReport, Happened, Founded, TextAdded, CheckedOut, TakenOver, LayerCommitted, LayerParked, LayerFinished, LayerReopened, LayerIgnored, LayerReadmitted, SnapshotTaken, ItemDecided, ItemUndecided, AllFreed, Restored}
 use Rattle.project_machine.specs.Machine.{change, refusal, when}
 use Rattle.project_machine.specs.History.{after, after_places, effect, numbered_from, on_row, place_behind, unfounded, under_hold, with_commit, with_draft, with_finished, with_ignored}
 use Rattle.project_machine.specs.Legal.{IsLegal, legal_founding, legal_restored, legal_step, legal_freeing}
@@ -105,6 +105,7 @@ follows who s t place caller (ReadLayer name whose) e lay alike free made = absu
 follows who s t place caller (TakeSnapshot number) e lay alike free made = absurd (none_some e made)
 follows who s t place caller ReadPairs e lay alike free made = absurd (none_some e made)
 follows who s t place caller ReadAlpha e lay alike free made = absurd (none_some e made)
+follows who s t place caller (ReadReport report) e lay alike free made = absurd (none_some e made)
 follows who s t place caller (AddText name text) e lay alike free made =
     subst (Follows who s t place) (some_same (TextAdded caller name text) e made) (text_follows who caller name text s t place alike)
 follows who s t place caller (Checkout name) e lay alike free made =

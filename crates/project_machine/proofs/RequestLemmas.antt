@@ -8,7 +8,7 @@ use Rattle.curator_decisions.specs.declared.decision_fault.DecisionFault.TheVari
 use Rattle.project_machine.specs.declared.book_refusal.BookRefusal.{BookRefusal}
 use Rattle.project_machine.specs.declared.book_refusal.BookRefusal.TheVariants as no
 use Rattle.project_machine.specs.ProjectState.{Document, Snapshot, ProjectState, no_document, document, is_some_out, is_there, number_of, snapshot, is_holder, holder_of, holder_name}
-use Rattle.project_machine.specs.Requests.{Asked, ReadConf, ListDocs, ReadText, AddText, Checkout, TakeOver, Commit, Park, Finish, ReadLayer, Reopen, Ignore, Readmit, Snap, TakeSnapshot, Decide, Undecide, ReadPairs, ReadAlpha, Happened, Founded, TextAdded, CheckedOut, TakenOver, LayerCommitted, LayerParked, LayerFinished, LayerReopened, LayerIgnored, LayerReadmitted, SnapshotTaken, ItemDecided, ItemUndecided, AllFreed, Restored}
+use Rattle.project_machine.specs.Requests.{Asked, ReadConf, ListDocs, ReadText, AddText, Checkout, TakeOver, Commit, Park, Finish, ReadLayer, Reopen, Ignore, Readmit, Snap, TakeSnapshot, Decide, Undecide, ReadPairs, ReadAlpha, ReadReport, Happened, Founded, TextAdded, CheckedOut, TakenOver, LayerCommitted, LayerParked, LayerFinished, LayerReopened, LayerIgnored, LayerReadmitted, SnapshotTaken, ItemDecided, ItemUndecided, AllFreed, Restored}
 use Rattle.project_machine.specs.AskedFor.{asked_for, made_by, next_by, IsOfTyped}
 use Rattle.project_machine.specs.History.{after}
 use Rattle.project_machine.specs.Legal.{IsLegal, legal_step, legal_freeing}
@@ -53,6 +53,7 @@ told s caller (ReadLayer name who) e free made = absurd (none_some e made)
 told s caller (TakeSnapshot number) e free made = absurd (none_some e made)
 told s caller ReadPairs e free made = absurd (none_some e made)
 told s caller ReadAlpha e free made = absurd (none_some e made)
+told s caller (ReadReport report) e free made = absurd (none_some e made)
 told s caller (AddText name text) e free made = subst (λ x. asked_for s x ≡ Some (caller, AddText name text)) (some_same (TextAdded caller name text) e made) refl
 told s caller (Checkout name) e free made =
     subst (λ x. asked_for s x ≡ Some (caller, Checkout name)) (some_same (CheckedOut caller (number_of s name)) e made)

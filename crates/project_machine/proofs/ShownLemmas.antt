@@ -15,7 +15,7 @@ use Rattle.project_machine.specs.declared.book_refusal.BookRefusal.{BookRefusal}
 use Rattle.project_machine.specs.declared.book_refusal.BookRefusal.TheVariants as no
 use Rattle.project_machine.specs.declared.book_refusal.Policy.TheVariants as policy
 use Rattle.project_machine.specs.ProjectState.{Row, Document, ProjectState, document, row, row_in, rater_of, is_there, number_of, is_annotator, is_curator}
-use Rattle.project_machine.specs.Requests.{Asked, ReadConf, ListDocs, ReadText, AddText, Checkout, TakeOver, Commit, Park, Finish, ReadLayer, Reopen, Ignore, Readmit, Snap, TakeSnapshot, Decide, Undecide, ReadPairs, ReadAlpha, Answered, Committed, Docs, HandedOut, Layer, Refused, Text, Happened, CheckedOut, LayerCommitted, LayerFinished, LayerParked, TakenOver}
+use Rattle.project_machine.specs.Requests.{Asked, ReadConf, ListDocs, ReadText, AddText, Checkout, TakeOver, Commit, Park, Finish, ReadLayer, Reopen, Ignore, Readmit, Snap, TakeSnapshot, Decide, Undecide, ReadPairs, ReadAlpha, ReadReport, Answered, Committed, Docs, HandedOut, Layer, Refused, Text, Happened, CheckedOut, LayerCommitted, LayerFinished, LayerParked, TakenOver}
 use Rattle.project_machine.specs.Machine.{Step, annotators_only, bounded, change, commit_rule, curators_only, has_layer, held, park_rule, decided_snapshot, fault_text, first_of, line_of, of_text, policies, refusal, refused, reply, size_in, step, tests, unless, when}
 use Rattle.project_machine.specs.History.{after, after_places, unfounded}
 use Rattle.project_machine.specs.Legal.{IsLegal}
@@ -172,6 +172,7 @@ shown_alone s who (Decide number holder id verdict) is lay = both_refused s who 
 shown_alone s who (Undecide number holder id) is lay = both_refused s who (Undecide number holder id) is lay refl refl
 shown_alone s who ReadPairs is lay = both_refused s who ReadPairs is lay refl refl
 shown_alone s who ReadAlpha is lay = both_refused s who ReadAlpha is lay refl refl
+shown_alone s who (ReadReport report) is lay = both_refused s who (ReadReport report) is lay refl refl
 shown_alone s who (Checkout name) is lay =
     step_same s who (Checkout name) refl
     (ap (λ b. option_or (roster s who) (option_or (annotators_only s who) (checkout_tests b (row_in (mine who s) name who)))) (same_there s who name)

@@ -5,7 +5,7 @@ use Rattle.std.proofs.lemmas.Bool.{cases_lt}
 use Rattle.std.proofs.lemmas.Grind.{get_or-set_at}
 use Rattle.std.proofs.lemmas.List.{get_or_append_left, get_or-set_other, length-set, set_past, take-append-le}
 use Rattle.project_machine.specs.ProjectState.{Snapshot, ProjectState, no_snapshot, snapshot}
-use Rattle.project_machine.specs.Requests.{Asked, ReadConf, ListDocs, ReadText, AddText, Checkout, TakeOver, Commit, Park, Finish, ReadLayer, Reopen, Ignore, Readmit, Snap, TakeSnapshot, Decide, Undecide, ReadPairs, ReadAlpha, Happened, Founded, TextAdded, CheckedOut, TakenOver, LayerCommitted, LayerParked, LayerFinished, LayerReopened, LayerIgnored, LayerReadmitted, SnapshotTaken, ItemDecided, ItemUndecided, AllFreed, Restored}
+use Rattle.project_machine.specs.Requests.{Asked, ReadConf, ListDocs, ReadText, AddText, Checkout, TakeOver, Commit, Park, Finish, ReadLayer, Reopen, Ignore, Readmit, Snap, TakeSnapshot, Decide, Undecide, ReadPairs, ReadAlpha, ReadReport, Happened, Founded, TextAdded, CheckedOut, TakenOver, LayerCommitted, LayerParked, LayerFinished, LayerReopened, LayerIgnored, LayerReadmitted, SnapshotTaken, ItemDecided, ItemUndecided, AllFreed, Restored}
 use Rattle.project_machine.specs.Machine.{change}
 use Rattle.project_machine.specs.History.{after, begin, effect, new_snapshot, on_snapshot, place_behind, upto, with_decision, without_decision}
 use Rattle.project_machine.specs.Legal.{HoldsTheSame, IsLegal, legal_founding, legal_restored, legal_step, legal_freeing}
@@ -97,6 +97,7 @@ change_later s caller asked e made = later (change s caller asked) e made (each 
     each (Undecide number holder id) = tt
     each ReadPairs = tt
     each ReadAlpha = tt
+    each (ReadReport report) = tt
 
 effect_keeps : (s : ProjectState) (place : ℕ) (e : Happened) → IsLater e → Keeps s (effect place e s)
 effect_keeps s place (Founded conf level people) is = absurd is

@@ -2,6 +2,9 @@ pub mod People
 pub mod ProjectState
 pub mod Requests
 pub mod Tables
+pub mod ProgressTable
+pub mod SnapshotsTable
+pub mod Reports
 pub mod Entries
 pub mod Machine
 pub mod History

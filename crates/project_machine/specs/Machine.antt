@@ -23,9 +23,10 @@ use Rattle.unanimous_merge.specs.declared.item.ItemId.{ItemId}
 use Rattle.curator_decisions.specs.declared.verdict.Verdict.{Verdict}
 use Rattle.layer_rules.specs.CarriedByRule.{id_text, carried_by_rule}
 use Rattle.project_machine.specs.ProjectState.{Row, Document, Snapshot, ProjectState, annotators, is_annotator, is_curator, is_there, number_of, document, row_in, no_snapshot, finished_rows, is_untaken, snapshot, text_of, is_holder, holder_of, holder_name, item_in}
-use Rattle.project_machine.specs.Requests.{Asked, ReadConf, ListDocs, ReadText, AddText, Checkout, TakeOver, Commit, Park, Finish, ReadLayer, Reopen, Ignore, Readmit, Snap, TakeSnapshot, Decide, Undecide, ReadPairs, ReadAlpha, Out, View, Answered, Conf, Docs, Text, Added, HandedOut, Committed, Parked, Finished, Layer, Ignored, Snapped, Taken, Decided, Pairs, Alpha, Refused, Happened, TextAdded, CheckedOut, TakenOver, LayerCommitted, LayerParked, LayerFinished, LayerReopened, LayerIgnored, LayerReadmitted, SnapshotTaken, ItemDecided, ItemUndecided}
+use Rattle.project_machine.specs.Requests.{Asked, ReadConf, ListDocs, ReadText, AddText, Checkout, TakeOver, Commit, Park, Finish, ReadLayer, Reopen, Ignore, Readmit, Snap, TakeSnapshot, Decide, Undecide, ReadPairs, ReadAlpha, ReadReport, Out, View, Answered, Conf, Docs, Text, Added, HandedOut, Committed, Parked, Finished, Layer, Ignored, Snapped, Taken, Decided, Pairs, Alpha, Table, Refused, Happened, TextAdded, CheckedOut, TakenOver, LayerCommitted, LayerParked, LayerFinished, LayerReopened, LayerIgnored, LayerReadmitted, SnapshotTaken, ItemDecided, ItemUndecided}
 use Rattle.project_machine.specs.Entries.{entry_of}
 use Rattle.project_machine.specs.Tables.{pair_lines, all_line}
+use Rattle.project_machine.specs.Reports.{report_table}
 
 -- ---- who may ask, and what is tested
 
@@ -67,6 +68,7 @@ policies s caller (Decide number holder id verdict) = curators_only s caller
 policies s caller (Undecide number holder id) = curators_only s caller
 policies s caller ReadPairs = curators_only s caller
 policies s caller ReadAlpha = curators_only s caller
+policies s caller (ReadReport report) = curators_only s caller
 
 -- a document of this name must be there
 abbrev pub there : ProjectState → List ℕ → Option BookRefusal
@@ -137,6 +139,7 @@ tests s caller (Decide number holder id verdict) = taken s number ∷ holds (sna
 tests s caller (Undecide number holder id) = taken s number ∷ holds (snapshot s number) holder ∷ undecidable s (snapshot s number) (item_in (snapshot s number) holder id) ∷ []
 tests s caller ReadPairs = []
 tests s caller ReadAlpha = []
+tests s caller (ReadReport report) = []
 
 -- why a request is refused, if it is: the caller must be on the roster, then may ask, then each test in order
 abbrev pub refusal : ProjectState → List ℕ → Asked → Option BookRefusal
@@ -213,6 +216,7 @@ reply s caller (Decide number holder id verdict) = Decided (length (with_verdict
 reply s caller (Undecide number holder id) = Decided (length (without_verdict (snapshot s number).verdicts (item_in (snapshot s number) holder id)))
 reply s caller ReadPairs = Pairs (annotators s) (pair_lines s)
 reply s caller ReadAlpha = Alpha (all_line s)
+reply s caller (ReadReport report) = Table (report_table s report)
 
 -- what a request that is not refused makes happen
 abbrev pub change : ProjectState → List ℕ → Asked → Option Happened
@@ -235,6 +239,7 @@ change s caller (Decide number holder id verdict) = Some (ItemDecided caller num
 change s caller (Undecide number holder id) = Some (ItemUndecided caller number (holder_of (snapshot s number) holder) id)
 change s caller ReadPairs = None
 change s caller ReadAlpha = None
+change s caller (ReadReport report) = None
 
 -- what a project answers, and what happens
 pub record Step : Type 0 where

@@ -2,7 +2,7 @@
 use Rattle.std.specs.Prelude.{◌≡◌, ℕ, ◌<◌, ◌≤◌, ◌^◌, List, length, chars, encode_utf8_all, IsUtf8, ⊤}
 use Rattle.entry_bytes.specs.Fields.{IsSlug}
 use Rattle.command_bytes.specs.CommandValues.{AreCommands, IsTypedLayer}
-use Rattle.project_machine.specs.Requests.{Asked, ReadConf, ListDocs, ReadText, AddText, Checkout, TakeOver, Commit, Park, Finish, ReadLayer, Reopen, Ignore, Readmit, Snap, TakeSnapshot, Decide, Undecide, ReadPairs, ReadAlpha}
+use Rattle.project_machine.specs.Requests.{Asked, ReadConf, ListDocs, ReadText, AddText, Checkout, TakeOver, Commit, Park, Finish, ReadLayer, Reopen, Ignore, Readmit, Snap, TakeSnapshot, Decide, Undecide, ReadPairs, ReadAlpha, ReadReport}
 
 -- the characters of a document's text, at most 200,000
 pub record IsDocText (text : List ℕ) : Type 0 where
@@ -31,3 +31,4 @@ IsAsked (Decide number holder id verdict) = (number < 2 ^ 64) × IsSlug holder
 IsAsked (Undecide number holder id) = (number < 2 ^ 64) × IsSlug holder
 IsAsked ReadPairs = ⊤
 IsAsked ReadAlpha = ⊤
+IsAsked (ReadReport report) = ⊤

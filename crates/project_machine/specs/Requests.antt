@@ -9,6 +9,7 @@ use Rattle.kappa_alpha.specs.declared.figures.PairLine.{PairLine}
 use Rattle.kappa_alpha.specs.declared.figures.AlphaLine.{AlphaLine}
 use Rattle.project_machine.specs.declared.book_refusal.BookRefusal.{BookRefusal}
 use Rattle.project_machine.specs.declared.doc_line.DocLine.{DocLine}
+use Rattle.project_machine.specs.declared.report.Report.{Report}
 use Rattle.unanimous_merge.specs.declared.item.ItemId.{ItemId}
 use Rattle.curator_decisions.specs.declared.verdict.Verdict.{Verdict}
 use Rattle.project_machine.specs.ProjectState.{ProjectState}
@@ -34,6 +35,7 @@ pub data Asked : Type 0 where
   Undecide : (number : ℕ) (holder : List ℕ) (id : AnnId) → Asked
   ReadPairs : Asked
   ReadAlpha : Asked
+  ReadReport : Report → Asked
 
 -- a layer that is handed out: the hold, how often it was committed, the layer, the parked commands, and what the layer is for
 pub record Out : Type 0 where
@@ -69,6 +71,7 @@ pub data Answered : Type 0 where
   Decided : (count : ℕ) → Answered
   Pairs : (names : List (List ℕ)) (lines : List PairLine) → Answered
   Alpha : AlphaLine → Answered
+  Table : (bytes : List ℕ) → Answered
   Refused : BookRefusal → (named : List ℕ) → Answered
 
 -- what happened; `by` is who asked for it, `doc` the number of a document from 0, `number` that of a snapshot from 1, and `holder` a holder's place in it from 0

@@ -19,6 +19,7 @@
 mod book_refusal;
 mod doc_line;
 mod laws;
+mod report;
 mod roster;
 mod roster_fault;
 mod worked_steps;
@@ -30,6 +31,7 @@ pub use crate::laws::{
     committed_layers_obey, histories_go_on, openings_can_be_repeated, places_stand,
     rosters_can_found, snapshots_stay, states_can_be_restored, views_can_be_curated,
 };
+pub use crate::report::Report;
 pub use crate::roster::Roster;
 pub use crate::roster_fault::RosterFault;
 pub use crate::worked_steps::{

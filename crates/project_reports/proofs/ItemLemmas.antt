@@ -7,7 +7,7 @@ use Rattle.unanimous_merge.specs.Readings.{Reading, contents, reading_of, readin
 use Rattle.unanimous_merge.specs.Unanimous.{in_each}
 use Rattle.curator_decisions.specs.Decisions.{verdict_on}
 use Rattle.project_machine.specs.ProjectState.{Snapshot}
-use Rattle.project_reports.specs.SnapshotsTable.{is_unanimous, is_undecided}
+use Rattle.project_machine.specs.SnapshotsTable.{is_unanimous, is_undecided}
 use Rattle.project_reports.proofs.BitLemmas.{bits_of_all_set}
 use Rattle.project_reports.proofs.CountLemmas.{count_made}
 

@@ -11,7 +11,7 @@ use Rattle.layer_model.specs.declared.normal.Normal.{Normal}
 use Rattle.layer_model.specs.declared.note.Note.{Note}
 use Rattle.layer_model.specs.Annotations.{no_marks}
 use Rattle.project_machine.specs.ProjectState.{Row}
-use Rattle.project_reports.specs.ProgressTable.{annotation_count, flag_text, standing}
+use Rattle.project_machine.specs.ProgressTable.{annotation_count, flag_text, standing}
 use Rattle.project_reports.specs.WorkedStates.{fields, shown, span, two_spans}
 
 none_counted : annotation_count no_marks ≡ 0

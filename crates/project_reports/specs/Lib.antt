@@ -1,4 +1,2 @@
-pub mod ProgressTable
-pub mod SnapshotsTable
 pub mod WorkedStates
 pub mod WrittenRows

@@ -7,7 +7,7 @@ use Rattle.layer_model.specs.declared.span.Span.{Span}
 use Rattle.layer_model.specs.Annotations.{Annotations, no_marks}
 use Rattle.layer_core.specs.declared.command.Command.TheVariants.{ClearAttribute}
 use Rattle.project_machine.specs.ProjectState.{Row, blank_row}
-use Rattle.project_reports.specs.ProgressTable.{progress_fields}
+use Rattle.project_machine.specs.ProgressTable.{progress_fields}
 
 -- a span over the characters from `start` up to `end`
 abbrev pub span : ℕ → ℕ → Span

@@ -4,7 +4,7 @@ ghost use Rattle.unanimous_merge.specs.Items.{leaders};
 ghost use Rattle.unanimous_merge.specs.Readings.{readings};
 ghost use Rattle.unanimous_merge.specs.Rows.{AreCoherent};
 ghost use Rattle.curator_decisions.specs.Decisions.{verdict_on};
-ghost use Rattle.project_reports.specs.SnapshotsTable.{is_unanimous, is_undecided};
+ghost use Rattle.project_machine.specs.SnapshotsTable.{is_unanimous, is_undecided};
 
 use curator_decisions::Decisions;
 use mark_base::Memory;

@@ -1,7 +1,7 @@
 //! Who is done.
 ghost use Rattle.std.specs.Prelude.{◌≡◌, ◌++◌, filter, flat_map, map, not, slice_get, IfOk, OnOk};
 ghost use Rattle.agreement_report.specs.Report.{IsReady, row, text_of};
-ghost use Rattle.project_reports.specs.ProgressTable.{annotation_count, flag_text, progress_fields, progress_rows, progress_table, standing};
+ghost use Rattle.project_machine.specs.ProgressTable.{annotation_count, flag_text, progress_fields, progress_rows, progress_table, standing};
 ghost use Rattle.project_reports.specs.WrittenRows.{row_if};
 
 use crate::table_writer::{finish, write_row};

@@ -5,7 +5,7 @@ ghost use Rattle.unanimous_merge.specs.Rows.{AreCoherent};
 ghost use Rattle.agreement_report.specs.Report.{IsReady, row, text_of};
 ghost use Rattle.project_machine.specs.Legal.{IsKept};
 ghost use Rattle.project_machine.specs.ProjectState.{document};
-ghost use Rattle.project_reports.specs.SnapshotsTable.{accepts, snapshot_fields, snapshots_table};
+ghost use Rattle.project_machine.specs.SnapshotsTable.{accepts, snapshot_fields, snapshots_table};
 
 use crate::item_counts::item_counts;
 use crate::table_writer::{finish, write_row};

@@ -1,7 +1,7 @@
 //! How many verdicts accept their items.
 ghost use Rattle.std.specs.Prelude.{◌≡◌, count_by, false};
 ghost use Rattle.std.specs.Option.{option_map_or};
-ghost use Rattle.project_reports.specs.SnapshotsTable.{accepts};
+ghost use Rattle.project_machine.specs.SnapshotsTable.{accepts};
 
 use curator_decisions::{Decisions, Verdict};
 use unanimous_merge::ItemId;

@@ -5,10 +5,10 @@ ghost use Rattle.curator_decisions.specs.declared.verdict.Verdict.TheVariants as
 ghost use Rattle.agreement_report.specs.Report.{row};
 ghost use Rattle.project_machine.specs.ProjectState.{row_at};
 ghost use Rattle.project_machine.specs.WorkedSteps.{at_place};
-ghost use Rattle.project_reports.specs.ProgressTable.{progress_table};
+ghost use Rattle.project_machine.specs.ProgressTable.{progress_table};
 ghost use Rattle.content_keys.specs.WorkedLayers.{e, t};
 ghost use Rattle.unanimous_merge.specs.WorkedSnapshots.{both, name};
-ghost use Rattle.project_reports.specs.SnapshotsTable.{decided_fields, snapshots_table};
+ghost use Rattle.project_machine.specs.SnapshotsTable.{decided_fields, snapshots_table};
 ghost use Rattle.project_reports.specs.WorkedStates.{fields, parked_row, shown};
 
 /// The table of progress without documents, and the rows of ann at the places of a history of one document: nothing was

@@ -1,6 +1,6 @@
 -- The plain values of what is asked, answered and happens: what the definitions of a project speak of.
 use Rattle.std.specs.Arc.{arc_value}
-use Rattle.project_machine.specs.Requests.{Asked, ReadConf, ListDocs, ReadText, AddText, Checkout, TakeOver, Commit, Park, Finish, ReadLayer, Reopen, Ignore, Readmit, Snap, TakeSnapshot, Decide, Undecide, ReadPairs, ReadAlpha, View, Answered, Conf, Docs, Text, Added, HandedOut, Committed, Parked, Finished, Layer, Ignored, Snapped, Taken, Decided, Pairs, Alpha, Refused, Happened, Founded, TextAdded, CheckedOut, TakenOver, LayerCommitted, LayerParked, LayerFinished, LayerReopened, LayerIgnored, LayerReadmitted, SnapshotTaken, ItemDecided, ItemUndecided, AllFreed, Restored}
+use Rattle.project_machine.specs.Requests.{Asked, ReadConf, ListDocs, ReadText, AddText, Checkout, TakeOver, Commit, Park, Finish, ReadLayer, Reopen, Ignore, Readmit, Snap, TakeSnapshot, Decide, Undecide, ReadPairs, ReadAlpha, ReadReport, View, Answered, Conf, Docs, Text, Added, HandedOut, Committed, Parked, Finished, Layer, Ignored, Snapped, Taken, Decided, Pairs, Alpha, Table, Refused, Happened, Founded, TextAdded, CheckedOut, TakenOver, LayerCommitted, LayerParked, LayerFinished, LayerReopened, LayerIgnored, LayerReadmitted, SnapshotTaken, ItemDecided, ItemUndecided, AllFreed, Restored}
 use Rattle.project_machine.specs.Requests as plain
 use Rattle.project_state.specs.declared.request.Request.{Request}
 use Rattle.project_state.specs.declared.request.Request.TheVariants as asks
@@ -32,6 +32,7 @@ asked_of (asks.Decide number holder id verdict) = Decide number holder id verdic
 asked_of (asks.Undecide number holder id) = Undecide number holder id
 asked_of asks.Pairs = ReadPairs
 asked_of asks.Alpha = ReadAlpha
+asked_of (asks.Report report) = ReadReport report
 
 -- a layer that is handed out
 abbrev pub out_of : Out → plain.Out
@@ -58,6 +59,7 @@ answer_of (says.Taken view) = Taken (view_of view)
 answer_of (says.Decided count) = Decided count
 answer_of (says.Pairs names lines) = Pairs names lines
 answer_of (says.Alpha line) = Alpha line
+answer_of (says.Table bytes) = Table bytes
 answer_of (says.Refused refusal named) = Refused refusal named
 
 -- what a change makes happen; a founding without a level has the level 255

@@ -16,7 +16,7 @@
 #![tactic(auto)]
 
 pub use project_machine::{
-    BookRefusal, DocLine, Policy, Roster, RosterFault, annotators_are_shown_their_own,
+    BookRefusal, DocLine, Policy, Report, Roster, RosterFault, annotators_are_shown_their_own,
     annotators_change_their_own_rows, changes_tell_their_requests, committed_layers_obey,
     examples_of_broken_layers, examples_of_histories, examples_of_snapshots, examples_of_steps,
     histories_go_on, openings_can_be_repeated, places_stand, rosters_can_found, snapshots_stay,

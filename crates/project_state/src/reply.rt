@@ -8,7 +8,7 @@ use curator_decisions::Decisions;
 use kappa_alpha::AlphaLine;
 use layer_model::{Layer, Snapshot};
 use layer_undo::Script;
-use mark_base::{SlugList, Text};
+use mark_base::{Bytes, SlugList, Text};
 use std::sync::Arc;
 
 /// A layer that is handed out: its hold, how often it was committed, the committed layer, the commands that were
@@ -66,6 +66,8 @@ pub enum Reply {
     Pairs(SlugList, PairList),
     /// The agreement of all annotators.
     Alpha(AlphaLine),
+    /// A table about the whole project, as CSV.
+    Table(Bytes),
     /// A refusal and what it names, which is empty where it names nothing.
     Refused(BookRefusal, Text),
 }

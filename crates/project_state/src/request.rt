@@ -4,6 +4,7 @@ use curator_decisions::Verdict;
 use layer_model::Layer;
 use layer_undo::Script;
 use mark_base::{AnnId, Slug};
+use project_machine::Report;
 use std::sync::Arc;
 
 /// A request of a caller. `doc` names a document, `who` the annotator whose layer it is, `number` is a snapshot's,
@@ -94,4 +95,6 @@ pub enum Request {
     Pairs,
     /// The agreement of all annotators.
     Alpha,
+    /// A table about the whole project.
+    Report(Report),
 }

@@ -9,7 +9,7 @@
 //!
 //! What it must be is `step` of `project_machine`. A file a part: `policies.rt` who may ask, `refusals.rt` the tests,
 //! `accept.rt` the answers, `outcomes.rt` both together for texts and rows, `snap.rt` and `decide.rt` for snapshots,
-//! `agreement.rt` for the tables, `texts.rt` what a refusal names.
+//! `agreement.rt` and `reports.rt` for tables, `texts.rt` what a refusal names.
 mod accept;
 mod accepted;
 mod agreement;
@@ -19,6 +19,7 @@ mod outcomes;
 mod parts;
 mod policies;
 mod refusals;
+mod reports;
 mod request_values;
 mod rows;
 mod shots;

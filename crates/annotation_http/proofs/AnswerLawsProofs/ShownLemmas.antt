@@ -20,7 +20,7 @@ use Rattle.agreement_report.specs.Report.{IsShown}
 use Rattle.project_machine.specs.declared.book_refusal.BookRefusal.{BookRefusal}
 use Rattle.project_machine.specs.declared.book_refusal.BookRefusal.TheVariants as no
 use Rattle.project_machine.specs.ProjectState.{ProjectState, Snapshot, annotators, no_snapshot, number_of, snapshot, text_of}
-use Rattle.project_machine.specs.Requests.{Asked, ReadConf, ListDocs, ReadText, AddText, Checkout, TakeOver, Commit, Park, Finish, ReadLayer, Reopen, Ignore, Readmit, Snap, TakeSnapshot, Decide, Undecide, ReadPairs, ReadAlpha, Answered, Happened}
+use Rattle.project_machine.specs.Requests.{Asked, ReadConf, ListDocs, ReadText, AddText, Checkout, TakeOver, Commit, Park, Finish, ReadLayer, Reopen, Ignore, Readmit, Snap, TakeSnapshot, Decide, Undecide, ReadPairs, ReadAlpha, ReadReport, Answered, Happened}
 use Rattle.project_machine.specs.Machine.{Step, bounded, change, refusal, refused, reply, size_in, step, taken, unless, view_of}
 use Rattle.project_machine.specs.Tables.{all_line, line_of_two, lines_of_one, pair_lines, standing_of}
 use Rattle.project_machine.specs.History.{after}
@@ -121,6 +121,7 @@ reply_shown s caller (Decide number holder id verdict) flawless cohere k are fre
 reply_shown s caller (Undecide number holder id) flawless cohere k are free = tt
 reply_shown s caller ReadPairs flawless cohere k are free = pairs_shown s k
 reply_shown s caller ReadAlpha flawless cohere k are free = alpha_shown s k
+reply_shown s caller (ReadReport report) flawless cohere k are free = tt
 
 -- a change whose entry is too long is refused
 long_or_shown : (long : Bool) (s : ProjectState) (asked : Asked) (told : BookRefusal) (granted : Step) → CanBeShown granted.answer → CanBeShown (cond long (refused s asked told) granted).answer

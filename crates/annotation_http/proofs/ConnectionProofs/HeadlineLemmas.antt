@@ -8,7 +8,7 @@ use Rattle.project_machine.specs.declared.book_refusal.BookRefusal.TheVariants a
 use Rattle.project_machine.specs.Legal.{LayersObey}
 use Rattle.project_machine.specs.Machine.{Step, change, of_text, refusal, refused, reply, size_in, step, unless}
 use Rattle.project_machine.specs.ProjectState.{ProjectState, annotators}
-use Rattle.project_machine.specs.Requests.{Asked, ReadConf, ListDocs, ReadText, AddText, Checkout, TakeOver, Commit, Park, Finish, ReadLayer, Reopen, Ignore, Readmit, Snap, TakeSnapshot, Decide, Undecide, ReadPairs, ReadAlpha, Answered, Pairs, Alpha, Refused, Happened}
+use Rattle.project_machine.specs.Requests.{Asked, ReadConf, ListDocs, ReadText, AddText, Checkout, TakeOver, Commit, Park, Finish, ReadLayer, Reopen, Ignore, Readmit, Snap, TakeSnapshot, Decide, Undecide, ReadPairs, ReadAlpha, ReadReport, Answered, Pairs, Alpha, Refused, Happened}
 use Rattle.project_machine.specs.Tables.{all_line, pair_lines}
 use Rattle.annotation_http.specs.Connection.Headline.{IsRuled, IsTooLong, IsTrustworthy}
 
@@ -57,6 +57,7 @@ reply_refuses s caller (Decide number holder id verdict) told named is = cc
 reply_refuses s caller (Undecide number holder id) told named is = cc
 reply_refuses s caller ReadPairs told named is = cc
 reply_refuses s caller ReadAlpha told named is = cc
+reply_refuses s caller (ReadReport report) told named is = cc
 
 reply_pairs : (s : ProjectState) (caller : List ℕ) (asked : Asked) (names : List (List ℕ)) (lines : List PairLine) → Pairs names lines ≡ reply s caller asked → (names ≡ annotators s) × (lines ≡ pair_lines s)
 reply_pairs s caller ReadConf names lines is = absurd cc
@@ -78,6 +79,7 @@ reply_pairs s caller (Decide number holder id verdict) names lines is = absurd c
 reply_pairs s caller (Undecide number holder id) names lines is = absurd cc
 reply_pairs s caller ReadPairs names lines is = (let f : Pairs names lines ≡ Pairs (annotators s) (pair_lines s) = is in (cc, cc))
 reply_pairs s caller ReadAlpha names lines is = absurd cc
+reply_pairs s caller (ReadReport report) names lines is = absurd cc
 
 reply_alpha : (s : ProjectState) (caller : List ℕ) (asked : Asked) (line : AlphaLine) → Alpha line ≡ reply s caller asked → line ≡ all_line s
 reply_alpha s caller ReadConf line is = absurd cc
@@ -99,6 +101,7 @@ reply_alpha s caller (Decide number holder id verdict) line is = absurd cc
 reply_alpha s caller (Undecide number holder id) line is = absurd cc
 reply_alpha s caller ReadPairs line is = absurd cc
 reply_alpha s caller ReadAlpha line is = (let f : Alpha line ≡ Alpha (all_line s) = is in cc)
+reply_alpha s caller (ReadReport report) line is = absurd cc
 
 -- ---- what stands at a place
 

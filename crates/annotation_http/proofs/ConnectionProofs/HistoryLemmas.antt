@@ -12,7 +12,7 @@ use Rattle.http_answers.specs.Answers.Answers.{answer_on}
 use Rattle.project_machine.specs.declared.book_refusal.BookRefusal.{BookRefusal}
 use Rattle.project_machine.specs.declared.book_refusal.BookRefusal.TheVariants as no
 use Rattle.project_machine.specs.ProjectState.{ProjectState}
-use Rattle.project_machine.specs.Requests.{Asked, ReadConf, ListDocs, ReadText, AddText, Checkout, TakeOver, Commit, Park, Finish, ReadLayer, Reopen, Ignore, Readmit, Snap, TakeSnapshot, Decide, Undecide, ReadPairs, ReadAlpha, Answered, HandedOut, Happened, Out, Refused}
+use Rattle.project_machine.specs.Requests.{Asked, ReadConf, ListDocs, ReadText, AddText, Checkout, TakeOver, Commit, Park, Finish, ReadLayer, Reopen, Ignore, Readmit, Snap, TakeSnapshot, Decide, Undecide, ReadPairs, ReadAlpha, ReadReport, Answered, HandedOut, Happened, Out, Refused}
 use Rattle.project_machine.specs.Machine.{Step, refusal, refused, reply, size_in, step, unless}
 use Rattle.project_machine.specs.History.{after, begin, change_at, last, upto}
 use Rattle.project_machine.specs.Legal.{IsLegal}
@@ -105,6 +105,7 @@ made_out s caller doc (Decide number holder id verdict) out d is = none_some doc
 made_out s caller doc (Undecide number holder id) out d is = none_some doc d
 made_out s caller doc ReadPairs out d is = none_some doc d
 made_out s caller doc ReadAlpha out d is = none_some doc d
+made_out s caller doc (ReadReport report) out d is = none_some doc d
 
 -- ---- the places of one's own
 

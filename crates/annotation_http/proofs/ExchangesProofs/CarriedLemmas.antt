@@ -12,7 +12,7 @@ use Rattle.http_answers.specs.Answers.Answers.{answer_on}
 use Rattle.http_answers.specs.declared.answer_bodies.message_fault.MessageFault.TheVariants as message
 use Rattle.http_answers.specs.AnswerBodies.Refusals.{fault_answer}
 use Rattle.project_machine.specs.declared.book_refusal.BookRefusal.TheVariants as no
-use Rattle.project_machine.specs.Requests.{Asked, ReadConf, ListDocs, ReadText, AddText, Checkout, TakeOver, Commit, Park, Finish, ReadLayer, Reopen, Ignore, Readmit, Snap, TakeSnapshot, Decide, Undecide, ReadPairs, ReadAlpha, Answered, Committed, HandedOut, Parked, Refused}
+use Rattle.project_machine.specs.Requests.{Asked, ReadConf, ListDocs, ReadText, AddText, Checkout, TakeOver, Commit, Park, Finish, ReadLayer, Reopen, Ignore, Readmit, Snap, TakeSnapshot, Decide, Undecide, ReadPairs, ReadAlpha, ReadReport, Answered, Committed, HandedOut, Parked, Refused}
 use Rattle.project_machine.specs.Legal.{IsLegal}
 use Rattle.project_machine.specs.Asking.{StaysFaultless, Visited, Visiting}
 use Rattle.annotation_http.specs.Exchanges.Connections.{Connection, Bare, Holding, Holds, with_desk}
@@ -55,6 +55,7 @@ next_held c caller doc (Decide number holder id verdict) answered e = absurd (le
 next_held c caller doc (Undecide number holder id) answered e = absurd (let f : ◌≡◌ {A = Option (List ℕ)} None (Some doc) = e in cc)
 next_held c caller doc ReadPairs answered e = absurd (let f : ◌≡◌ {A = Option (List ℕ)} None (Some doc) = e in cc)
 next_held c caller doc ReadAlpha answered e = absurd (let f : ◌≡◌ {A = Option (List ℕ)} None (Some doc) = e in cc)
+next_held c caller doc (ReadReport report) answered e = absurd (let f : ◌≡◌ {A = Option (List ℕ)} None (Some doc) = e in cc)
 
 false_true : {X : Type 0} → false ≡ true → X
 false_true e = absurd (let f : false ≡ true = e in cc)
@@ -80,6 +81,7 @@ next_same c caller (Decide number holder id verdict) answered e = refl
 next_same c caller (Undecide number holder id) answered e = refl
 next_same c caller ReadPairs answered e = refl
 next_same c caller ReadAlpha answered e = refl
+next_same c caller (ReadReport report) answered e = refl
 
 -- ---- whether the keeper failed
 

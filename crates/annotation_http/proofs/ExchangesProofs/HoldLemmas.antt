@@ -9,7 +9,7 @@ use Rattle.layer_model.specs.Annotations.{Annotations}
 use Rattle.project_machine.specs.declared.book_refusal.BookRefusal.{BookRefusal}
 use Rattle.project_machine.specs.declared.book_refusal.BookRefusal.TheVariants as no
 use Rattle.project_machine.specs.ProjectState.{Row, Document, ProjectState, annotators, blank_row, document, is_there, new_document, no_document, number_of, rater_of, row, row_in, with_row}
-use Rattle.project_machine.specs.Requests.{Asked, ReadConf, ListDocs, ReadText, AddText, Checkout, TakeOver, Commit, Park, Finish, ReadLayer, Reopen, Ignore, Readmit, Snap, TakeSnapshot, Decide, Undecide, ReadPairs, ReadAlpha, Happened, TextAdded, CheckedOut, TakenOver, LayerCommitted, LayerParked, LayerFinished, LayerReopened, LayerIgnored, LayerReadmitted, SnapshotTaken, ItemDecided, ItemUndecided, AllFreed, Founded, Restored, Answered, HandedOut, Out}
+use Rattle.project_machine.specs.Requests.{Asked, ReadConf, ListDocs, ReadText, AddText, Checkout, TakeOver, Commit, Park, Finish, ReadLayer, Reopen, Ignore, Readmit, Snap, TakeSnapshot, Decide, Undecide, ReadPairs, ReadAlpha, ReadReport, Happened, TextAdded, CheckedOut, TakenOver, LayerCommitted, LayerParked, LayerFinished, LayerReopened, LayerIgnored, LayerReadmitted, SnapshotTaken, ItemDecided, ItemUndecided, AllFreed, Founded, Restored, Answered, HandedOut, Out}
 use Rattle.project_machine.specs.Machine.{Step, change, held, out_of, refusal, refused, reply, size_in, step, there, unless}
 use Rattle.project_machine.specs.History.{after, begin, change_at, effect, freed, last, on_row, place_behind, under_hold, with_commit, with_draft, with_finished, with_ignored}
 use Rattle.project_machine.specs.Legal.{IsLegal, legal_founding, legal_restored, legal_step, legal_freeing}
@@ -120,6 +120,7 @@ change_goes s caller who (ReadLayer name whose) e place doc free is = absurd (no
 change_goes s caller who (TakeSnapshot number) e place doc free is = absurd (none_some e is)
 change_goes s caller who ReadPairs e place doc free is = absurd (none_some e is)
 change_goes s caller who ReadAlpha e place doc free is = absurd (none_some e is)
+change_goes s caller who (ReadReport report) e place doc free is = absurd (none_some e is)
 change_goes s caller who (AddText name text) e place doc free is =
     subst (λ (x : Happened). RowGoes (row s doc who) (row (effect place x s) doc who) place x) (some_same (TextAdded caller name text) e is)
     (same_row _ _ place (TextAdded caller name text) (added_row s.documents (new_document s name text) doc (rater_of s who) (blank_at (length (annotators s)) (rater_of s who))))
@@ -365,6 +366,7 @@ change_goes_on s caller (ReadLayer name whose) e place is = absurd (none_some e 
 change_goes_on s caller (TakeSnapshot number) e place is = absurd (none_some e is)
 change_goes_on s caller ReadPairs e place is = absurd (none_some e is)
 change_goes_on s caller ReadAlpha e place is = absurd (none_some e is)
+change_goes_on s caller (ReadReport report) e place is = absurd (none_some e is)
 change_goes_on s caller (AddText name text) e place is =
     subst (λ (x : Happened). GoesOn s (effect place x s)) (some_same (TextAdded caller name text) e is)
     (record { conf = refl; others = naming (new_document s name text) ∷ []; named = added_names s.documents (new_document s name text) })

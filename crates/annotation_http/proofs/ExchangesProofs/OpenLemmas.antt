@@ -43,7 +43,7 @@ use Rattle.http_answers.specs.Requests.Requests.{asked_of_document, asked_of_lay
 use Rattle.project_machine.specs.declared.book_refusal.BookRefusal.{BookRefusal}
 use Rattle.project_machine.specs.declared.book_refusal.BookRefusal.TheVariants as no
 use Rattle.project_machine.specs.ProjectState.{ProjectState, holder_of, number_of, snapshot}
-use Rattle.project_machine.specs.Requests.{Asked, ReadConf, ListDocs, ReadText, AddText, Checkout, TakeOver, Commit, Park, Finish, ReadLayer, Reopen, Ignore, Readmit, Snap, TakeSnapshot, Decide, Undecide, ReadPairs, ReadAlpha, Answered, Committed, HandedOut, Out, Refused, Happened, TextAdded, LayerFinished, LayerReopened, LayerIgnored, LayerReadmitted, SnapshotTaken, ItemDecided, ItemUndecided}
+use Rattle.project_machine.specs.Requests.{Asked, ReadConf, ListDocs, ReadText, AddText, Checkout, TakeOver, Commit, Park, Finish, ReadLayer, Reopen, Ignore, Readmit, Snap, TakeSnapshot, Decide, Undecide, ReadPairs, ReadAlpha, ReadReport, Answered, Committed, HandedOut, Out, Refused, Happened, TextAdded, LayerFinished, LayerReopened, LayerIgnored, LayerReadmitted, SnapshotTaken, ItemDecided, ItemUndecided}
 use Rattle.project_machine.specs.Machine.{Step, change, refusal, refused, reply, size_in, step, unless}
 use Rattle.project_machine.specs.History.{after, last}
 use Rattle.project_machine.specs.Legal.{IsLegal}
@@ -173,6 +173,9 @@ none_commits (Project project.Conf) bytes = tt
 none_commits (Project project.Documents) bytes = tt
 none_commits (Project project.Pairs) bytes = tt
 none_commits (Project project.Alpha) bytes = tt
+none_commits (Project project.Progress) bytes = tt
+none_commits (Project project.Snapshots) bytes = tt
+none_commits (Project project.Roster) bytes = tt
 none_commits (Document document.ReadText doc) bytes = tt
 none_commits (Document document.AddText doc) bytes = text_none doc (text_body bytes)
 none_commits (Document document.Checkout doc) bytes = tt
@@ -209,6 +212,7 @@ well_asked c caller (Decide number holder id verdict) none = tt
 well_asked c caller (Undecide number holder id) none = tt
 well_asked c caller ReadPairs none = tt
 well_asked c caller ReadAlpha none = tt
+well_asked c caller (ReadReport report) none = tt
 
 body_well : (c : Connection) (r : BookRoute) (caller : List ℕ) (said : Result Asked BodyFault) → NoCommit said → IsWell c (by_body c r caller said)
 unfolding IsWell
@@ -302,6 +306,7 @@ refused_stays c caller (Decide number holder id verdict) r named = inl refl
 refused_stays c caller (Undecide number holder id) r named = inl refl
 refused_stays c caller ReadPairs r named = inl refl
 refused_stays c caller ReadAlpha r named = inl refl
+refused_stays c caller (ReadReport report) r named = inl refl
 
 quiet_stays : (s : ProjectState) (c : Connection) (caller : List ℕ) (wanted : Asked) (answered : Answered) → answered ≡ (step s caller wanted).answer → (step s caller wanted).change ≡ None → StaysOrLeaves c (next c caller wanted answered)
 unfolding StaysOrLeaves
@@ -332,6 +337,7 @@ quiet_stays s c caller (Decide number holder id verdict) answered is none = inl 
 quiet_stays s c caller (Undecide number holder id) answered is none = inl refl
 quiet_stays s c caller ReadPairs answered is none = inl refl
 quiet_stays s c caller ReadAlpha answered is none = inl refl
+quiet_stays s c caller (ReadReport report) answered is none = inl refl
 
 stays_or_leaves_open : (seen : List Happened) (mine : List ℕ) (c now : Connection) → StaysOrLeaves c now → IsOpen seen mine c → IsOpen seen mine now
 unfolding StaysOrLeaves
@@ -395,6 +401,7 @@ made_opens log mine c caller (Undecide number holder id) answered e legal all we
     other_open log e (ItemUndecided caller number (holder_of (snapshot (after log) number) holder) id) mine c legal all (λ held under. under) (some_same (ItemUndecided caller number (holder_of (snapshot (after log) number) holder) id) e made) open_on
 made_opens log mine c caller ReadPairs answered e legal all well is stepped made open_on = absurd (none_some e made)
 made_opens log mine c caller ReadAlpha answered e legal all well is stepped made open_on = absurd (none_some e made)
+made_opens log mine c caller (ReadReport report) answered e legal all well is stepped made open_on = absurd (none_some e made)
 
 -- ---- one message
 

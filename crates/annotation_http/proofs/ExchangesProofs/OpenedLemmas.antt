@@ -3,7 +3,7 @@ use Rattle.std.proofs.Common.{◌≡◌, ℕ, Bool, true, false, List, Option, S
 use Rattle.project_machine.specs.declared.book_refusal.BookRefusal.{BookRefusal}
 use Rattle.project_machine.specs.declared.book_refusal.BookRefusal.TheVariants as no
 use Rattle.project_machine.specs.ProjectState.{ProjectState, document, is_annotator, number_of, row_in}
-use Rattle.project_machine.specs.Requests.{Asked, ReadConf, ListDocs, ReadText, AddText, Checkout, TakeOver, Commit, Park, Finish, ReadLayer, Reopen, Ignore, Readmit, Snap, TakeSnapshot, Decide, Undecide, ReadPairs, ReadAlpha, Answered, HandedOut, Happened}
+use Rattle.project_machine.specs.Requests.{Asked, ReadConf, ListDocs, ReadText, AddText, Checkout, TakeOver, Commit, Park, Finish, ReadLayer, Reopen, Ignore, Readmit, Snap, TakeSnapshot, Decide, Undecide, ReadPairs, ReadAlpha, ReadReport, Answered, HandedOut, Happened}
 use Rattle.project_machine.specs.Machine.{Step, change, out_of, refusal, refused, reply, size_in, step, unless}
 use Rattle.project_machine.specs.Legal.{IsKept, IsRowKept}
 use Rattle.project_machine.proofs.RowLemmas.{Flawless}
@@ -48,6 +48,7 @@ granted_opened s caller (Decide number holder id verdict) flawless kept free = t
 granted_opened s caller (Undecide number holder id) flawless kept free = tt
 granted_opened s caller ReadPairs flawless kept free = tt
 granted_opened s caller ReadAlpha flawless kept free = tt
+granted_opened s caller (ReadReport report) flawless kept free = tt
 
 -- what a step answers can be opened
 pub step_opened : (s : ProjectState) (caller : List ℕ) (asked : Asked) → Flawless → IsKept s → CanBeOpened (step s caller asked).answer

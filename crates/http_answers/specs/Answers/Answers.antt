@@ -15,7 +15,7 @@ use Rattle.http_answers.specs.declared.routes.route.Route.{Route}
 use Rattle.http_answers.specs.declared.routes.route.Route.TheVariants.{Book}
 use Rattle.http_answers.specs.declared.routes.route.BookRoute.TheVariants.{Snapshot}
 use Rattle.http_answers.specs.declared.routes.route.SnapshotRoute.TheVariants as snapshot
-use Rattle.project_machine.specs.Requests.{Answered, Conf, Docs, Text, Added, HandedOut, Committed, Parked, Finished, Layer, Ignored, Snapped, Taken, Decided, Pairs, Alpha, Refused, Out, View}
+use Rattle.project_machine.specs.Requests.{Answered, Conf, Docs, Text, Added, HandedOut, Committed, Parked, Finished, Layer, Ignored, Snapped, Taken, Decided, Pairs, Alpha, Table, Refused, Out, View}
 use Rattle.http_answers.specs.AnswerBodies.JsonAnswers.{json, one_number, one_truth, out_value, snapped_value, docs_value}
 use Rattle.http_answers.specs.AnswerBodies.Refusals.{book_refusal}
 
@@ -62,6 +62,7 @@ answer_on route (Taken view) = snapshot_answer (is_curated route) view
 answer_on route (Decided count) = json 200 (one_number (codes "decided") count)
 answer_on route (Pairs names lines) = csv (pairs_table names lines)
 answer_on route (Alpha line) = csv (alpha_table line)
+answer_on route (Table bytes) = csv bytes
 answer_on route (Refused refusal named) = book_refusal refusal named
 
 -- ---- what can be answered so
@@ -88,4 +89,5 @@ CanBeShown (Taken view) = CanBeViewed view
 CanBeShown (Decided count) = ⊤
 CanBeShown (Pairs names lines) = All (λ line. IsShown (length names) line) lines
 CanBeShown (Alpha line) = IfSome line.alpha (λ f. Writable f)
+CanBeShown (Table bytes) = ⊤
 CanBeShown (Refused refusal named) = ⊤

@@ -10,7 +10,8 @@ use Rattle.http_answers.specs.declared.routes.route.LayerRoute.{LayerRoute}
 use Rattle.http_answers.specs.declared.routes.route.LayerRoute.TheVariants as layer
 use Rattle.http_answers.specs.declared.routes.route.SnapshotRoute.{SnapshotRoute}
 use Rattle.http_answers.specs.declared.routes.route.SnapshotRoute.TheVariants as snapshot
-use Rattle.project_machine.specs.Requests.{Asked, ReadConf, ListDocs, ReadText, AddText, Checkout, TakeOver, Finish, ReadLayer, Reopen, Ignore, Readmit, Snap, TakeSnapshot, Decide, Undecide, ReadPairs, ReadAlpha}
+use Rattle.project_machine.specs.declared.report.Report.TheVariants as report
+use Rattle.project_machine.specs.Requests.{Asked, ReadConf, ListDocs, ReadText, AddText, Checkout, TakeOver, Finish, ReadLayer, Reopen, Ignore, Readmit, Snap, TakeSnapshot, Decide, Undecide, ReadPairs, ReadAlpha, ReadReport}
 use Rattle.http_answers.specs.declared.requests.body_fault.BodyFault.{BodyFault}
 use Rattle.http_answers.specs.declared.requests.item_named.ItemNamed.{ItemNamed}
 use Rattle.http_answers.specs.declared.requests.decision_body.DecisionBody.{DecisionBody}
@@ -35,6 +36,9 @@ asked_of_project project.Conf = ReadConf
 asked_of_project project.Documents = ListDocs
 asked_of_project project.Pairs = ReadPairs
 asked_of_project project.Alpha = ReadAlpha
+asked_of_project project.Progress = ReadReport report.Progress
+asked_of_project project.Snapshots = ReadReport report.Snapshots
+asked_of_project project.Roster = ReadReport report.Roster
 
 -- on a document
 abbrev pub asked_of_document : DocumentRoute → List ℕ → List ℕ → Result Asked BodyFault

@@ -55,6 +55,9 @@ project_lines =
     ∷ line (codes "/docs") (of.Project (gets project.Documents))
     ∷ line (codes "/agreement/pairs") (of.Project (gets project.Pairs))
     ∷ line (codes "/agreement/alpha") (of.Project (gets project.Alpha))
+    ∷ line (codes "/progress") (of.Project (gets project.Progress))
+    ∷ line (codes "/snapshots") (of.Project (gets project.Snapshots))
+    ∷ line (codes "/roster") (of.Project (gets project.Roster))
     ∷ []
 
 -- the paths of a document `d`

@@ -138,6 +138,15 @@ fn alpha_answer(alloc: Global, line: &AlphaLine) -> Result<Answer, Memory>
     Ok(csv(body))
 }
 
+/// A table about the whole project.
+fn table_answer(bytes: &Bytes) -> Result<Answer, Memory>
+    ensures answer { IfOk result (λ answer. answer ≡ csv bytes.now) }
+    ensures status { IfOk result (λ answer. IsStatusCode answer.status) }
+{
+    let body = bytes.copy()?;
+    Ok(csv(body))
+}
+
 /// A layer that is handed out.
 fn handed_out(alloc: Global, out: &Out) -> Result<Answer, Memory>
     ensures answer { IfOk result (λ answer. answer ≡ handed_out (out_of out.now)) }
@@ -173,6 +182,7 @@ pub fn answer_of(alloc: Global, route: &Route, reply: &Reply) -> Result<Answer, 
         Reply::Decided { count } => number_answer(alloc, 200, "decided", u64::from(*count)),
         Reply::Pairs(names, lines) => pairs_answer(alloc, names.items(), lines.items()),
         Reply::Alpha(line) => alpha_answer(alloc, line),
+        Reply::Table(bytes) => table_answer(bytes),
         Reply::Refused(refusal, named) => book_refusal(alloc, *refusal, named),
     }
 }

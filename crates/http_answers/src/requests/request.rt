@@ -9,7 +9,7 @@ use crate::requests::decision_body::{decision_body, undecision_body};
 use crate::requests::text_body::text_body;
 use crate::routes::{BookRoute, DocumentRoute, LayerRoute, ProjectRoute, SnapshotRoute};
 use mark_base::{Memory, Slug};
-use project_state::Request;
+use project_state::{Report, Request};
 use std::alloc::Global;
 
 /// What a route of the project itself asks.
@@ -21,6 +21,9 @@ fn request_of_project(route: ProjectRoute) -> Request
         ProjectRoute::Documents => Request::ListDocs,
         ProjectRoute::Pairs => Request::Pairs,
         ProjectRoute::Alpha => Request::Alpha,
+        ProjectRoute::Progress => Request::Report(Report::Progress),
+        ProjectRoute::Snapshots => Request::Report(Report::Snapshots),
+        ProjectRoute::Roster => Request::Report(Report::Roster),
     }
 }
 

@@ -12,6 +12,12 @@ pub enum ProjectRoute {
     Pairs,
     /// `GET /agreement/alpha`: the agreement of all annotators.
     Alpha,
+    /// `GET /progress`: who is done, as CSV.
+    Progress,
+    /// `GET /snapshots`: how far curation is, as CSV.
+    Snapshots,
+    /// `GET /roster`: the people, as a roster file has them.
+    Roster,
 }
 
 /// A route on a document.

@@ -62,6 +62,9 @@ fn add_project_paths(router: &mut Router<Resource>) -> Result<(), Memory>
         "/agreement/alpha",
         Methods::gets(ProjectRoute::Alpha),
     )?;
+    project_path(router, "/progress", Methods::gets(ProjectRoute::Progress))?;
+    project_path(router, "/snapshots", Methods::gets(ProjectRoute::Snapshots))?;
+    project_path(router, "/roster", Methods::gets(ProjectRoute::Roster))?;
     Ok(())
 }
 

@@ -17,6 +17,9 @@ pub fn examples_of_project_routes()
     ensures documents { found_by (codes "GET") (codes "/docs") ≡ found.At (Book (Project project.Documents)) }
     ensures pairs { found_by (codes "GET") (codes "/agreement/pairs") ≡ found.At (Book (Project project.Pairs)) }
     ensures alpha { found_by (codes "GET") (codes "/agreement/alpha") ≡ found.At (Book (Project project.Alpha)) }
+    ensures progress { found_by (codes "GET") (codes "/progress") ≡ found.At (Book (Project project.Progress)) }
+    ensures snapshots { found_by (codes "GET") (codes "/snapshots") ≡ found.At (Book (Project project.Snapshots)) }
+    ensures roster { found_by (codes "GET") (codes "/roster") ≡ found.At (Book (Project project.Roster)) }
 {}
 
 /// The routes on a document.

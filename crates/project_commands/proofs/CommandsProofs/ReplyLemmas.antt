@@ -6,7 +6,7 @@ use Rattle.std.proofs.Common.{Result, Ok, Err, ◌≡◌, ◌⊎◌, ℕ, Bool, 
 use Rattle.project_machine.specs.declared.book_refusal.BookRefusal.{BookRefusal}
 use Rattle.project_machine.specs.declared.book_refusal.BookRefusal.TheVariants as no
 use Rattle.project_machine.specs.ProjectState.{ProjectState}
-use Rattle.project_machine.specs.Requests.{Asked, ReadConf, ListDocs, ReadText, AddText, Checkout, TakeOver, Commit, Park, Finish, ReadLayer, Reopen, Ignore, Readmit, Snap, TakeSnapshot, Decide, Undecide, ReadPairs, ReadAlpha, Answered, Conf, Docs, Text, Added, HandedOut, Committed, Parked, Finished, Layer, Ignored, Snapped, Taken, Decided, Pairs, Alpha, Refused, Happened}
+use Rattle.project_machine.specs.Requests.{Asked, ReadConf, ListDocs, ReadText, AddText, Checkout, TakeOver, Commit, Park, Finish, ReadLayer, Reopen, Ignore, Readmit, Snap, TakeSnapshot, Decide, Undecide, ReadPairs, ReadAlpha, ReadReport, Answered, Conf, Docs, Text, Added, HandedOut, Committed, Parked, Finished, Layer, Ignored, Snapped, Taken, Decided, Pairs, Alpha, Table, Refused, Happened}
 use Rattle.project_machine.specs.Machine.{Step, change, of_text, refusal, refused, reply, size_in, step, unless}
 use Rattle.project_machine.specs.History.{after}
 use Rattle.project_machine.specs.Asking.{IsStep, steps, wants_memory, is_not_kept, step_at}
@@ -35,6 +35,7 @@ reply_granted s caller (Decide number holder id verdict) = refl
 reply_granted s caller (Undecide number holder id) = refl
 reply_granted s caller ReadPairs = refl
 reply_granted s caller ReadAlpha = refl
+reply_granted s caller (ReadReport report) = refl
 
 true_false : {A : Type 0} → ◌≡◌ {A = Bool} true false → A
 true_false {A} e = cc
@@ -110,6 +111,7 @@ refused_as (Taken view) r is = none_some r is
 refused_as (Decided count) r is = none_some r is
 refused_as (Pairs names lines) r is = none_some r is
 refused_as (Alpha line) r is = none_some r is
+refused_as (Table bytes) r is = none_some r is
 
 -- an answer without a refusal is none
 not_refused : (answer : Answered) → refusal_in answer ≡ None → is_refused answer ≡ false
@@ -138,6 +140,7 @@ unrefused_renamed s asked (Taken view) free = refl
 unrefused_renamed s asked (Decided count) free = refl
 unrefused_renamed s asked (Pairs names lines) free = refl
 unrefused_renamed s asked (Alpha line) free = refl
+unrefused_renamed s asked (Table bytes) free = refl
 
 bounded_renamed : (long : Bool) (s : ProjectState) (asked : Asked) (bytes : ℕ) (answer : Answered) (happened : Option Happened) → is_refused answer ≡ false
     → renamed s asked (if◌then◌else◌ {A = Step} long (refused s asked (no.EntryTooLong bytes)) (record { answer = answer; change = happened })).answer

@@ -16,7 +16,7 @@ use Rattle.project_machine.specs.declared.book_refusal.Policy.TheVariants as pol
 use Rattle.command_bytes.specs.WritableCommands.{CanBeWritten}
 use Rattle.project_machine.specs.Machine.{change, commit_rule, first_of, held, park_rule, policies, refusal, size_of, tests, there, when}
 use Rattle.project_machine.specs.ProjectState.{ProjectState, document, holder_of, is_annotator, is_curator, is_there, number_of, row_in, snapshot}
-use Rattle.project_machine.specs.Requests.{Asked, ReadConf, ListDocs, ReadText, AddText, Checkout, TakeOver, Commit, Park, Finish, ReadLayer, Reopen, Ignore, Readmit, Snap, TakeSnapshot, Decide, Undecide, ReadPairs, ReadAlpha, Happened, TextAdded, CheckedOut, TakenOver, LayerCommitted, LayerParked, LayerFinished, LayerReopened, LayerIgnored, LayerReadmitted, SnapshotTaken, ItemDecided, ItemUndecided}
+use Rattle.project_machine.specs.Requests.{Asked, ReadConf, ListDocs, ReadText, AddText, Checkout, TakeOver, Commit, Park, Finish, ReadLayer, Reopen, Ignore, Readmit, Snap, TakeSnapshot, Decide, Undecide, ReadPairs, ReadAlpha, ReadReport, Happened, TextAdded, CheckedOut, TakenOver, LayerCommitted, LayerParked, LayerFinished, LayerReopened, LayerIgnored, LayerReadmitted, SnapshotTaken, ItemDecided, ItemUndecided}
 use Rattle.project_state.proofs.StoredLemmas.{there_by_number}
 use Rattle.project_state.specs.Entries.Writing.{CanBeEntered}
 
@@ -95,6 +95,7 @@ can_be_entered unflawed replayed s caller (ReadLayer name who) e free made = abs
 can_be_entered unflawed replayed s caller (TakeSnapshot number) e free made = absurd (none_some e made)
 can_be_entered unflawed replayed s caller ReadPairs e free made = absurd (none_some e made)
 can_be_entered unflawed replayed s caller ReadAlpha e free made = absurd (none_some e made)
+can_be_entered unflawed replayed s caller (ReadReport report) e free made = absurd (none_some e made)
 can_be_entered unflawed replayed s caller (AddText name text) e free made = entered s _ e made tt
 can_be_entered unflawed replayed s caller (Checkout name) e free made = entered s _ e made tt
 can_be_entered unflawed replayed s caller (TakeOver name) e free made = entered s _ e made tt

@@ -15,6 +15,7 @@ use crate::steps::outcomes::{
     take_over,
 };
 use crate::steps::policies::refuses_caller;
+use crate::steps::reports::accept_report;
 use crate::steps::snap::snap;
 use crate::steps::texts::{decided_number, refusal_text};
 use kappa_alpha::Tables;
@@ -85,6 +86,9 @@ fn outcome_of(
         Request::Undecide { number, holder, id } => undecide(state, by, number, &holder, id),
         Request::Pairs => Ok(Outcome::Accepted(accept_pairs(alloc, state, tables, by)?)),
         Request::Alpha => Ok(Outcome::Accepted(accept_alpha(state, tables, by))),
+        Request::Report(report) => {
+            Ok(Outcome::Accepted(accept_report(alloc, state, by, report)?))
+        }
     }
 }
 

@@ -62,6 +62,7 @@ fn policies(state: &BookState, caller: &Slug, request: &Request) -> Option<BookR
         Request::Undecide { .. } => curators_only(state, caller),
         Request::Pairs => curators_only(state, caller),
         Request::Alpha => curators_only(state, caller),
+        Request::Report(_) => curators_only(state, caller),
     }
 }
 

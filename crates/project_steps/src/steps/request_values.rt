@@ -110,5 +110,6 @@ pub fn is_typed(request: &Request) -> bool
         }
         Request::Pairs => true,
         Request::Alpha => true,
+        Request::Report(_) => true,
     }
 }

@@ -4,7 +4,7 @@ use Rattle.std.specs.List.{flat_map}
 use Rattle.entry_bytes.specs.declared.person.Person.{Person}
 use Rattle.agreement_report.specs.Report.{row, text_of}
 use Rattle.project_machine.specs.ProjectState.{Document, annotators}
-use Rattle.project_reports.specs.ProgressTable.{progress_header, progress_rows, progress_table}
+use Rattle.project_machine.specs.ProgressTable.{progress_header, progress_rows, progress_table}
 use Rattle.project_reports.proofs.progress.progress_csv.Goals as goal
 
 pub returns : goal.returns

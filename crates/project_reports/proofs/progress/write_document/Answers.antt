@@ -2,7 +2,7 @@ use Rattle.std.proofs.Common.{ℕ, List, refl}
 use Rattle.std.specs.List.{slice_get}
 use Rattle.agreement_report.specs.Report.{row, text_of}
 use Rattle.project_machine.specs.ProjectState.{Row}
-use Rattle.project_reports.specs.ProgressTable.{progress_fields}
+use Rattle.project_machine.specs.ProgressTable.{progress_fields}
 use Rattle.project_reports.proofs.RowLemmas.{row_more}
 use Rattle.project_reports.proofs.progress.write_document.Goals as goal
 

@@ -1,7 +1,7 @@
 use Rattle.std.proofs.Common.{◌≡◌, ◌++◌, take}
 use Rattle.std.specs.List.{flat_map, zip}
 use Rattle.agreement_report.specs.Report.{IsReady, row, text_of}
-use Rattle.project_reports.specs.ProgressTable.{progress_fields}
+use Rattle.project_machine.specs.ProgressTable.{progress_fields}
 use Rattle.project_reports.proofs.progress.write_document.Given as goal
 
 abbrev pub invariant-loop-rater : goal.invariant-loop-rater

@@ -1,7 +1,7 @@
 use Rattle.std.proofs.Common.{◌≡◌, ◌++◌, take}
 use Rattle.std.specs.List.{flat_map}
 use Rattle.agreement_report.specs.Report.{IsReady, text_of}
-use Rattle.project_reports.specs.ProgressTable.{progress_rows}
+use Rattle.project_machine.specs.ProgressTable.{progress_rows}
 use Rattle.project_reports.proofs.progress.write_documents.Given as goal
 
 abbrev pub invariant-loop-document : goal.invariant-loop-document

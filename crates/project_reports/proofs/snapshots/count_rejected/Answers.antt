@@ -1,5 +1,5 @@
 use Rattle.std.proofs.Common.{arith}
-use Rattle.project_reports.specs.SnapshotsTable.{accepts}
+use Rattle.project_machine.specs.SnapshotsTable.{accepts}
 use Rattle.project_reports.proofs.CountLemmas.{count_either}
 use Rattle.project_reports.proofs.snapshots.count_rejected.Goals as goal
 

@@ -1,7 +1,7 @@
 use Rattle.std.proofs.Common.{◌≡◌, ℕ, ◌<◌, ◌≤◌, List, length, get_or, ◌∙◌, ap, subst}
 use Rattle.agreement_report.specs.Report.{row, text_of}
 use Rattle.project_machine.specs.ProjectState.{Snapshot}
-use Rattle.project_reports.specs.SnapshotsTable.{snapshot_fields}
+use Rattle.project_machine.specs.SnapshotsTable.{snapshot_fields}
 use Rattle.project_reports.proofs.SnapshotLemmas.{numbered_all, numbered_more}
 use Rattle.project_reports.proofs.snapshots.write_snapshots.Goals as goal
 

@@ -1,7 +1,7 @@
 use Rattle.std.proofs.Common.{◌≡◌, ◌++◌, take}
 use Rattle.std.specs.List.{enumerate_from, flat_map}
 use Rattle.agreement_report.specs.Report.{IsReady, row, text_of}
-use Rattle.project_reports.specs.SnapshotsTable.{snapshot_fields}
+use Rattle.project_machine.specs.SnapshotsTable.{snapshot_fields}
 use Rattle.project_reports.proofs.snapshots.write_snapshots.Given as goal
 
 abbrev pub invariant-loop-place : goal.invariant-loop-place

@@ -1,6 +1,6 @@
 use Rattle.std.proofs.Common.{◌≡◌, ℕ, Bool, false, cond, sym, ◌∙◌, ap, arith}
 use Rattle.std.specs.Option.{option_map_or}
-use Rattle.project_reports.specs.SnapshotsTable.{accepts}
+use Rattle.project_machine.specs.SnapshotsTable.{accepts}
 use Rattle.project_reports.proofs.CountLemmas.{count_next}
 use Rattle.project_reports.proofs.verdict_counts.count_accepted.Goals as goal
 use Rattle.project_reports.proofs.verdict_counts.count_accepted.Goals.{then-is_accepted, else-is_accepted}

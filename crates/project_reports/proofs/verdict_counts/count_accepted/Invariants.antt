@@ -1,5 +1,5 @@
 use Rattle.std.proofs.Common.{◌≡◌, ◌≤◌, take, count_by}
-use Rattle.project_reports.specs.SnapshotsTable.{accepts}
+use Rattle.project_machine.specs.SnapshotsTable.{accepts}
 use Rattle.project_reports.proofs.verdict_counts.count_accepted.Given as goal
 
 abbrev pub invariant-loop-i : goal.invariant-loop-i

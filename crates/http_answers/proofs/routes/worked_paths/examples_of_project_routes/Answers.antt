@@ -20,3 +20,15 @@ returns-clause-pairs c = refl
 pub returns-clause-alpha : goal.returns-clause-alpha
 unfolding matchit_on_literals chars slug_fault table
 returns-clause-alpha c = refl
+
+pub returns-clause-progress : goal.returns-clause-progress
+unfolding matchit_on_literals chars slug_fault table
+returns-clause-progress c = refl
+
+pub returns-clause-snapshots : goal.returns-clause-snapshots
+unfolding matchit_on_literals chars slug_fault table
+returns-clause-snapshots c = refl
+
+pub returns-clause-roster : goal.returns-clause-roster
+unfolding matchit_on_literals chars slug_fault table
+returns-clause-roster c = refl
