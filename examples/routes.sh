@@ -26,6 +26,7 @@ serve() {
 # What a curator reads on each route that changes nothing.
 read_all() {
     for path in conf docs docs/rome/text docs/rome/layers/ann docs/rome/layers/bob agreement/pairs agreement/alpha \
+        progress snapshots roster \
         snapshots/1/items snapshots/1/curated; do
         curl -s -w '\n%{http_code} %{url_effective}\n' -H 'Caller: cur' "http://127.0.0.1:$port/$path"
     done
