@@ -5,6 +5,7 @@ use Rattle.std.specs.Option.{option_map_or, option_or}
 use Rattle.project_machine.specs.declared.book_refusal.BookRefusal.{BookRefusal}
 use Rattle.project_machine.specs.declared.book_refusal.BookRefusal.TheVariants as no
 use Rattle.project_machine.specs.declared.book_refusal.Policy.TheVariants as policy
+use Rattle.project_machine.specs.declared.report.Report.TheVariants as report
 use Rattle.curator_decisions.specs.declared.decision_fault.DecisionFault.{DecisionFault}
 use Rattle.curator_decisions.specs.declared.decision_fault.DecisionFault.TheVariants as fault
 use Rattle.curator_decisions.specs.DecisionFaults.{decide_fault, undecide_fault}
@@ -94,7 +95,9 @@ policies_not s caller (Decide number holder id verdict) = curators_not s caller
 policies_not s caller (Undecide number holder id) = curators_not s caller
 policies_not s caller ReadPairs = curators_not s caller
 policies_not s caller ReadAlpha = curators_not s caller
-policies_not s caller (ReadReport report) = curators_not s caller
+policies_not s caller (ReadReport report.Progress) = refl
+policies_not s caller (ReadReport report.Snapshots) = curators_not s caller
+policies_not s caller (ReadReport report.Roster) = curators_not s caller
 
 tests_none : (s : ProjectState) (caller : List ℕ) (asked : Asked) → NoneKeeper (tests s caller asked)
 tests_none s caller ReadConf = tt

@@ -1,6 +1,6 @@
 -- A project with one annotator's rows alone: what a change does to it.
 use Rattle.std.proofs.Common.{◌≡◌, ◌≢◌, ℕ, ◌≤◌, ◌||◌, List, [], ◌∷◌, length, map, set, replicate, get_or, bytes_eq, None, zero, suc, refl, sym, ◌∙◌, ap, arith, inl, inr}
-use Rattle.std.specs.List.{list_any}
+use Rattle.std.specs.List.{list_any, slice_get}
 use Rattle.std.proofs.lemmas.Bool.{cases_lt}
 use Rattle.std.proofs.lemmas.Grind.{get_or-set_at}
 use Rattle.std.proofs.lemmas.List.{get_or_past, get_or-set_other, length-map, length-replicate, length-set, set_past}
@@ -74,6 +74,13 @@ all_twice i [] = refl
 all_twice i (d ∷ ds) = ap (λ one. one ∷ map (only_row i) (map (only_row i) ds)) (twice i d) ∙ ap (λ rest. only_row i d ∷ rest) (all_twice i ds)
 
 -- the row of an annotator in a document alone
+-- the row of a rater is there where it was there
+pub alone_there : (i : ℕ) (rows : List Row) → slice_get (alone i rows) i ≡ slice_get rows i
+alone_there zero [] = refl
+alone_there (suc i) [] = refl
+alone_there zero (r ∷ rows) = refl
+alone_there (suc i) (r ∷ rows) = alone_there i rows
+
 pub row_alone : (i doc : ℕ) (ds : List Document) → get_or (get_or (map (only_row i) ds) doc no_document).rows i blank_row ≡ get_or (get_or ds doc no_document).rows i blank_row
 row_alone i doc [] = refl
 row_alone i zero (d ∷ ds) = alone_row i d.rows

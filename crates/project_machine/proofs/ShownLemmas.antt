@@ -1,7 +1,8 @@
 -- An annotator is shown the same where all rows of others are blank.
-use Rattle.std.proofs.Common.{◌≡◌, ℕ, ◌+◌, ◌==◌, ◌||◌, Bool, true, false, not, cond, List, [], ◌∷◌, length, map, bytes_eq, nat_lt, Option, Some, None, refl, sym, ◌∙◌, ap, subst, is_some, if◌then◌else◌}
-use Rattle.std.specs.List.{filter, list_any, position_or_len}
-use Rattle.std.specs.Option.{option_map, option_or}
+use Rattle.std.proofs.Common.{◌≡◌, ℕ, ◌+◌, ◌==◌, ◌||◌, Bool, true, false, not, cond, List, [], ◌∷◌, ◌++◌, length, map, bytes_eq, nat_lt, Option, Some, None, refl, sym, ◌∙◌, ap, subst, is_some, if◌then◌else◌}
+use Rattle.std.specs.List.{filter, flat_map, list_any, position_or_len, slice_get}
+use Rattle.std.specs.Option.{option_map, option_map_or, option_or}
+use Rattle.agreement_report.specs.Report as csv
 use Rattle.std.proofs.lemmas.Slice.Eq.{bytes_eq-Decides}
 use Rattle.entry_bytes.specs.declared.person.Person.{Person}
 use Rattle.entry_bytes.specs.declared.entry.Entry.TheVariants as entry
@@ -15,12 +16,14 @@ use Rattle.project_machine.specs.declared.book_refusal.BookRefusal.{BookRefusal}
 use Rattle.project_machine.specs.declared.book_refusal.BookRefusal.TheVariants as no
 use Rattle.project_machine.specs.declared.book_refusal.Policy.TheVariants as policy
 use Rattle.project_machine.specs.ProjectState.{Row, Document, ProjectState, document, row, row_in, rater_of, is_there, number_of, is_annotator, is_curator}
-use Rattle.project_machine.specs.Requests.{Asked, ReadConf, ListDocs, ReadText, AddText, Checkout, TakeOver, Commit, Park, Finish, ReadLayer, Reopen, Ignore, Readmit, Snap, TakeSnapshot, Decide, Undecide, ReadPairs, ReadAlpha, ReadReport, Answered, Committed, Docs, HandedOut, Layer, Refused, Text, Happened, CheckedOut, LayerCommitted, LayerFinished, LayerParked, TakenOver}
+use Rattle.project_machine.specs.Requests.{Asked, ReadConf, ListDocs, Table, ReadText, AddText, Checkout, TakeOver, Commit, Park, Finish, ReadLayer, Reopen, Ignore, Readmit, Snap, TakeSnapshot, Decide, Undecide, ReadPairs, ReadAlpha, ReadReport, Answered, Committed, Docs, HandedOut, Layer, Refused, Text, Happened, CheckedOut, LayerCommitted, LayerFinished, LayerParked, TakenOver}
 use Rattle.project_machine.specs.Machine.{Step, annotators_only, bounded, change, commit_rule, curators_only, has_layer, held, park_rule, decided_snapshot, fault_text, first_of, line_of, of_text, policies, refusal, refused, reply, size_in, step, tests, unless, when}
 use Rattle.project_machine.specs.History.{after, after_places, unfounded}
 use Rattle.project_machine.specs.Legal.{IsLegal}
 use Rattle.project_machine.specs.Own.{IsPrivate, only_row, own, shown}
-use Rattle.project_machine.proofs.OneRowLemmas.{any_alone, row_alone, text_alone}
+use Rattle.project_machine.specs.declared.report.Report.TheVariants as report
+use Rattle.project_machine.specs.ProgressTable.{own_progress, own_row, progress_fields, progress_header, progress_table, shown_progress}
+use Rattle.project_machine.proofs.OneRowLemmas.{alone_there, any_alone, row_alone, text_alone}
 use Rattle.project_machine.proofs.PrivateLemmas.{mine, own_state}
 
 -- ---- refusals by the policy
@@ -79,6 +82,19 @@ number_alone i name (d ∷ ds) = ap (λ n. cond (not (bytes_eq d.name name)) (1 
 lines_alone : (i : ℕ) (ds : List Document) → map line_of (map (only_row i) ds) ≡ map line_of ds
 lines_alone i [] = refl
 lines_alone i (d ∷ ds) = ap (λ rest. line_of d ∷ rest) (lines_alone i ds)
+
+-- an annotator's own rows are the same where the others' are blank
+rows_alone : (i : ℕ) (who : List ℕ) (ds : List Document) → flat_map (own_row i who) (map (only_row i) ds) ≡ flat_map (own_row i who) ds
+rows_alone i who [] = refl
+rows_alone i who (d ∷ ds) =
+    ap (λ (r : Option Row). option_map_or (λ (it : Row). csv.row (progress_fields d.name who it)) r [] ++ flat_map (own_row i who) (map (only_row i) ds)) (alone_there i d.rows)
+    ∙ ap (λ rest. own_row i who d ++ rest) (rows_alone i who ds)
+
+own_same : (s : ProjectState) (who : List ℕ) → is_curator s who ≡ false → shown_progress s who ≡ shown_progress (mine who s) who
+own_same s who lay =
+    ap (λ b. if◌then◌else◌ b (progress_table s) (own_progress s who)) lay
+    ∙ (ap (λ rows. csv.row progress_header ++ rows) (sym (rows_alone (rater_of s who) who s.documents))
+    ∙ sym (ap (λ b. if◌then◌else◌ b (progress_table (mine who s)) (own_progress (mine who s) who)) lay))
 
 same_number : (s : ProjectState) (who name : List ℕ) → number_of (mine who s) name ≡ number_of s name
 same_number s who name = number_alone (rater_of s who) name s.documents
@@ -172,7 +188,10 @@ shown_alone s who (Decide number holder id verdict) is lay = both_refused s who 
 shown_alone s who (Undecide number holder id) is lay = both_refused s who (Undecide number holder id) is lay refl refl
 shown_alone s who ReadPairs is lay = both_refused s who ReadPairs is lay refl refl
 shown_alone s who ReadAlpha is lay = both_refused s who ReadAlpha is lay refl refl
-shown_alone s who (ReadReport report) is lay = both_refused s who (ReadReport report) is lay refl refl
+shown_alone s who (ReadReport report.Progress) is lay =
+    step_same s who (ReadReport report.Progress) refl refl refl (ap Table (own_same s who lay)) (λ h e. no_change s (mine who s) h e)
+shown_alone s who (ReadReport report.Snapshots) is lay = both_refused s who (ReadReport report.Snapshots) is lay refl refl
+shown_alone s who (ReadReport report.Roster) is lay = both_refused s who (ReadReport report.Roster) is lay refl refl
 shown_alone s who (Checkout name) is lay =
     step_same s who (Checkout name) refl
     (ap (λ b. option_or (roster s who) (option_or (annotators_only s who) (checkout_tests b (row_in (mine who s) name who)))) (same_there s who name)

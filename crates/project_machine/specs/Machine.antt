@@ -26,6 +26,7 @@ use Rattle.project_machine.specs.ProjectState.{Row, Document, Snapshot, ProjectS
 use Rattle.project_machine.specs.Requests.{Asked, ReadConf, ListDocs, ReadText, AddText, Checkout, TakeOver, Commit, Park, Finish, ReadLayer, Reopen, Ignore, Readmit, Snap, TakeSnapshot, Decide, Undecide, ReadPairs, ReadAlpha, ReadReport, Out, View, Answered, Conf, Docs, Text, Added, HandedOut, Committed, Parked, Finished, Layer, Ignored, Snapped, Taken, Decided, Pairs, Alpha, Table, Refused, Happened, TextAdded, CheckedOut, TakenOver, LayerCommitted, LayerParked, LayerFinished, LayerReopened, LayerIgnored, LayerReadmitted, SnapshotTaken, ItemDecided, ItemUndecided}
 use Rattle.project_machine.specs.Entries.{entry_of}
 use Rattle.project_machine.specs.Tables.{pair_lines, all_line}
+use Rattle.project_machine.specs.declared.report.Report.TheVariants as report
 use Rattle.project_machine.specs.Reports.{report_table}
 
 -- ---- who may ask, and what is tested
@@ -68,7 +69,9 @@ policies s caller (Decide number holder id verdict) = curators_only s caller
 policies s caller (Undecide number holder id) = curators_only s caller
 policies s caller ReadPairs = curators_only s caller
 policies s caller ReadAlpha = curators_only s caller
-policies s caller (ReadReport report) = curators_only s caller
+policies s caller (ReadReport report.Progress) = None
+policies s caller (ReadReport report.Snapshots) = curators_only s caller
+policies s caller (ReadReport report.Roster) = curators_only s caller
 
 -- a document of this name must be there
 abbrev pub there : ProjectState → List ℕ → Option BookRefusal
@@ -216,7 +219,7 @@ reply s caller (Decide number holder id verdict) = Decided (length (with_verdict
 reply s caller (Undecide number holder id) = Decided (length (without_verdict (snapshot s number).verdicts (item_in (snapshot s number) holder id)))
 reply s caller ReadPairs = Pairs (annotators s) (pair_lines s)
 reply s caller ReadAlpha = Alpha (all_line s)
-reply s caller (ReadReport report) = Table (report_table s report)
+reply s caller (ReadReport report) = Table (report_table s caller report)
 
 -- what a request that is not refused makes happen
 abbrev pub change : ProjectState → List ℕ → Asked → Option Happened

@@ -1,6 +1,6 @@
 //! Tables about a whole project.
 
-/// A table about a whole project, as a curator reads it.
+/// A table about a whole project. Curators read each whole, and an annotator the own rows of the first.
 #[derive(Clone, Copy, Debug, PartialEq, Eq)]
 pub enum Report {
     /// Who is done: a row for each document and annotator.

@@ -1,6 +1,6 @@
 //! What a team looks up of a project: who is done, how far curation is, and who takes part, as CSV.
 //!
-//! [`progress_csv`] writes a row for each document and annotator, [`snapshots_csv`] one for each snapshot, of a
+//! [`progress_csv`] writes a row for each document and annotator ([`shown_progress_csv`] what of it a caller is shown), [`snapshots_csv`] one for each snapshot, of a
 //! project as a program keeps it, and [`roster_csv`] one for each person:
 //!
 //! ```text
@@ -25,7 +25,7 @@ mod verdict_counts;
 mod worked_rows;
 
 pub use crate::laws::every_annotator_has_a_row;
-pub use crate::progress::progress_csv;
+pub use crate::progress::{progress_csv, shown_progress_csv};
 pub use crate::roster::roster_csv;
 pub use crate::snapshots::snapshots_csv;
 pub use crate::worked_rows::{examples_of_curation, examples_of_progress};

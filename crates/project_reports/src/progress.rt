@@ -1,7 +1,7 @@
 //! Who is done.
 ghost use Rattle.std.specs.Prelude.{◌≡◌, ◌++◌, filter, flat_map, map, not, slice_get, IfOk, OnOk};
 ghost use Rattle.agreement_report.specs.Report.{IsReady, row, text_of};
-ghost use Rattle.project_machine.specs.ProgressTable.{annotation_count, flag_text, progress_fields, progress_rows, progress_table, standing};
+ghost use Rattle.project_machine.specs.ProgressTable.{annotation_count, flag_text, own_progress, own_row, progress_fields, progress_header, progress_rows, progress_table, shown_progress, standing};
 ghost use Rattle.project_reports.specs.WrittenRows.{row_if};
 
 use crate::table_writer::{finish, write_row};
@@ -144,6 +144,26 @@ fn write_documents(
     Ok(())
 }
 
+/// Writes the header of the table.
+fn write_header(writer: &mut Writer<Vec<u8>>) -> Result<(), Memory>
+    requires { IsReady writer.old }
+    ensures ready { OnOk result (IsReady writer.new) }
+    ensures written { OnOk result (text_of writer.new ≡ text_of writer.old ++ row progress_header) }
+{
+    write_row(
+        writer,
+        &[
+            b"document",
+            b"annotator",
+            b"revision",
+            b"state",
+            b"ignored",
+            b"annotations",
+            b"parked",
+        ],
+    )
+}
+
 /// Who is done, as CSV: a row for each document and annotator, the documents as they were added, the annotators of each in
 /// the order of their names.
 ///
@@ -158,18 +178,53 @@ pub fn progress_csv(alloc: Global, state: &BookState) -> Result<Bytes, Memory>
 {
     let names = annotator_names(alloc, state.roster().people())?;
     let mut writer = Writer::from_writer(Vec::new(alloc));
-    write_row(
-        &mut writer,
-        &[
-            b"document",
-            b"annotator",
-            b"revision",
-            b"state",
-            b"ignored",
-            b"annotations",
-            b"parked",
-        ],
-    )?;
+    write_header(&mut writer)?;
     write_documents(alloc, &mut writer, &names, state.document_list())?;
     finish(writer)
+}
+
+/// Writes the rows of one annotator, of this place among the annotators.
+fn write_own_rows(
+    alloc: Global,
+    writer: &mut Writer<Vec<u8>>,
+    rater: usize,
+    who: &Slug,
+    documents: &[StoredDocument],
+) -> Result<(), Memory>
+    requires { IsReady writer.old }
+    ensures ready { OnOk result (IsReady writer.new) }
+    ensures written { OnOk result (text_of writer.new ≡ text_of writer.old ++ flat_map (own_row rater who.now) documents.now) }
+{
+    for document in documents {
+        write_work_at(alloc, writer, document, rater, who)?;
+    }
+    Ok(())
+}
+
+/// The rows of one annotator alone.
+fn own_progress_csv(alloc: Global, state: &BookState, who: &Slug) -> Result<Bytes, Memory>
+    ensures { IfOk result (λ bytes. bytes ≡ own_progress state.now.state who.now) }
+{
+    let mut writer = Writer::from_writer(Vec::new(alloc));
+    write_header(&mut writer)?;
+    write_own_rows(
+        alloc,
+        &mut writer,
+        state.rater_of(who),
+        who,
+        state.document_list(),
+    )?;
+    finish(writer)
+}
+
+/// What a caller is shown of who is done: a curator what `progress_csv` writes, and an annotator the own rows of it, one
+/// for each document. Cost: as `progress_csv`, or the documents.
+pub fn shown_progress_csv(alloc: Global, state: &BookState, caller: &Slug) -> Result<Bytes, Memory>
+    ensures { IfOk result (λ bytes. bytes ≡ shown_progress state.now.state caller.now) }
+{
+    if state.is_curator(caller) {
+        progress_csv(alloc, state)
+    } else {
+        own_progress_csv(alloc, state, caller)
+    }
 }

@@ -5,10 +5,11 @@ ghost use Rattle.project_machine.specs.declared.book_refusal.BookRefusal.{BookRe
 ghost use Rattle.project_machine.specs.declared.book_refusal.Policy.{Policy};
 ghost use Rattle.project_machine.specs.Machine.{annotators_only, curators_only, policies, when};
 ghost use Rattle.project_machine.specs.ProjectState.{is_annotator, is_curator};
+ghost use Rattle.project_machine.specs.Requests.{ReadReport};
 ghost use Rattle.project_state.specs.Values.{asked_of};
 
 use mark_base::Slug;
-use project_state::{BookRefusal, BookState, Policy, Request};
+use project_state::{BookRefusal, BookState, Policy, Report, Request};
 
 /// A caller must be an annotator.
 fn annotators_only(state: &BookState, caller: &Slug) -> Option<BookRefusal>
@@ -29,6 +30,17 @@ fn curators_only(state: &BookState, caller: &Slug) -> Option<BookRefusal>
         None
     } else {
         Some(BookRefusal::NotAllowed(Policy::Curator))
+    }
+}
+
+/// Who may read which table about the whole project.
+fn policy_of_report(state: &BookState, caller: &Slug, report: Report) -> Option<BookRefusal>
+    ensures { result ≡ policies state.now.state caller.now (ReadReport report) }
+{
+    match report {
+        Report::Progress => None,
+        Report::Snapshots => curators_only(state, caller),
+        Report::Roster => curators_only(state, caller),
     }
 }
 
@@ -62,7 +74,7 @@ fn policies(state: &BookState, caller: &Slug, request: &Request) -> Option<BookR
         Request::Undecide { .. } => curators_only(state, caller),
         Request::Pairs => curators_only(state, caller),
         Request::Alpha => curators_only(state, caller),
-        Request::Report(_) => curators_only(state, caller),
+        Request::Report(report) => policy_of_report(state, caller, *report),
     }
 }
 

@@ -7,17 +7,18 @@ ghost use Rattle.project_steps.specs.Steps.Accepting.{Accepts};
 
 use crate::steps::accepted::Accepted;
 use mark_base::{Bytes, Memory, Slug};
-use project_reports::{progress_csv, roster_csv, snapshots_csv};
+use project_reports::{roster_csv, shown_progress_csv, snapshots_csv};
 use project_state::{BookState, Reply, Report};
 use std::alloc::Global;
 
-/// The bytes of a table about the whole project. Cost: as `progress_csv`, `snapshots_csv` and `roster_csv`.
-fn report_csv(alloc: Global, state: &BookState, report: Report) -> Result<Bytes, Memory>
+/// The bytes of a table about the whole project, as a caller is shown it. Cost: as `shown_progress_csv`, `snapshots_csv`
+/// and `roster_csv`.
+fn report_csv(alloc: Global, state: &BookState, by: &Slug, report: Report) -> Result<Bytes, Memory>
     requires { IsKept state.now.state }
-    ensures { IfOk result (λ bytes. bytes ≡ report_table state.now.state report) }
+    ensures { IfOk result (λ bytes. bytes ≡ report_table state.now.state by.now report) }
 {
     match report {
-        Report::Progress => progress_csv(alloc, state),
+        Report::Progress => shown_progress_csv(alloc, state, by),
         Report::Snapshots => snapshots_csv(alloc, state),
         Report::Roster => roster_csv(alloc, state.roster().people()),
     }
@@ -33,7 +34,7 @@ pub(crate) fn accept_report(
     requires { IsKept state.now.state }
     ensures { IfOk result (Accepts state.now.state by.now (ReadReport report)) }
 {
-    let bytes = report_csv(alloc, state, report)?;
+    let bytes = report_csv(alloc, state, by, report)?;
     Ok(Accepted {
         reply: Reply::Table(bytes),
         made: None,

@@ -13,7 +13,7 @@ returns c =
     let head : List ℕ = row progress_header in
     let rows : List (List ℕ) → List Document → List ℕ = λ names documents. flat_map (progress_rows names) documents in
     let start : text_of c.from_writer-writer.result ≡ [] = rw (c.from_writer-writer.ensures.wtr, c.from_writer-writer.ensures.empty, c.new.ensures.items) refl in
-    let headed : text_of c.write_row.new.writer ≡ head = c.in_ok-write_row.ensures.written ∙ ap (λ t. t ++ head) start in
+    let headed : text_of c.write_header.new.writer ≡ head = c.in_ok-write_header.ensures.written ∙ ap (λ t. t ++ head) start in
     let names : c.deref.result.now ≡ annotators s =
     c.deref.ensures.value ∙ (c.in_ok-names.ensures ∙ ap (λ (people : List Person). map (λ (person : Person). person.name) (filter (λ (person : Person). not person.curator) people)) (c.people.ensures ∙ c.roster.ensures)) in
     let whole : text_of c.write_documents.new.writer ≡ progress_table s =
