@@ -33,7 +33,7 @@ from .errors import (
 )
 from .layer import Argument, Attribute, Equivalence, Event, Layer, Normalization, Note, Relation, Span
 from .project import Project
-from .tables import Alpha, Document, Item, Pair, Snapshot
+from .tables import Alpha, Curation, Document, Item, Pair, Person, Progress, Snapshot
 
 __all__ = [
     "Alpha",
@@ -43,6 +43,7 @@ __all__ = [
     "BadRequest",
     "Command",
     "ConnectionLost",
+    "Curation",
     "DecisionRefused",
     "Desk",
     "DeskRefused",
@@ -59,6 +60,8 @@ __all__ = [
     "Note",
     "OtherAnswer",
     "Pair",
+    "Person",
+    "Progress",
     "Project",
     "Refused",
     "Relation",

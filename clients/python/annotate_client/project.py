@@ -10,7 +10,22 @@ from typing import Callable, List, Optional, Set, Type
 from .connection import CSV, Address, Answer, slug
 from .desk import Desk
 from .layer import Layer, Roles, read_layer, roles_of
-from .tables import Alpha, Document, Item, Pair, Snapshot, read_alpha, read_items, read_pairs
+from .tables import (
+    Alpha,
+    Curation,
+    Document,
+    Item,
+    Pair,
+    Person,
+    Progress,
+    Snapshot,
+    read_alpha,
+    read_items,
+    read_pairs,
+    read_progress,
+    read_roster,
+    read_snapshots,
+)
 
 
 class Project:
@@ -126,6 +141,26 @@ class Project:
         """
         return self._ask("PUT", f"/docs/{slug(name)}/text", text.encode("utf-8")).number("tokens")
 
+    # ---- people
+
+    def roster(self) -> List[Person]:
+        """Who takes part, by name, as a curator.
+
+        Example:
+            project.roster()[0]  # Person(name='ann', role='annotator')
+        """
+        return read_roster(self._ask("GET", "/roster").text(CSV))
+
+    def progress(self) -> List[Progress]:
+        """How far each annotator is with each document, also where nothing was begun, as a curator.
+
+        The documents come as they were added, and for each the annotators by name.
+
+        Example:
+            [it.annotator for it in project.progress() if it.document == "rome" and it.state != "finished"]  # ['cid']
+        """
+        return read_progress(self._ask("GET", "/progress").text(CSV))
+
     # ---- layers
 
     def desk(self, document: str, *, takeover: bool = False) -> Desk:
@@ -198,6 +233,16 @@ class Project:
         """
         answer = self._ask("POST", f"/docs/{slug(document)}/snapshots")
         return Snapshot(answer.number("snapshot"), answer.number("layers"))
+
+    def snapshots(self) -> List[Curation]:
+        """How far each snapshot is decided, in the order in which they were taken, as a curator.
+
+        The server lists the items of all snapshots for it, anew with each call.
+
+        Example:
+            [(it.number, it.document, it.undecided) for it in project.snapshots()]  # [(1, 'rome', 3)]
+        """
+        return read_snapshots(self._ask("GET", "/snapshots").text(CSV))
 
     def items(self, snapshot: int) -> List[Item]:
         """The items of a snapshot, by the order of their holders and then of their IDs, as a curator.

@@ -1,4 +1,4 @@
-"""The rows that a project answers: documents, snapshots, items and figures of agreement."""
+"""The rows that a project answers: people, documents and how far they are, snapshots, items and figures of agreement."""
 
 from __future__ import annotations
 
@@ -22,6 +22,41 @@ class Document:
 
 
 @dataclass(frozen=True)
+class Person:
+    """Somebody who takes part: the name, and the role, which is `annotator` or `curator`.
+
+    Example:
+        [person.name for person in project.roster() if person.role == "annotator"]  # ['ann', 'bob', 'cid']
+    """
+
+    name: str
+    role: str
+
+
+@dataclass(frozen=True)
+class Progress:
+    """How far an annotator is with a document.
+
+    `revision` is how often the layer was committed, and `annotations` how many annotations it has since it was committed
+    last, without classes. The state is `finished`; or else `out`, where a desk has the layer; or else `open`, where it was
+    committed; or else `none`. `ignored` tells whether a curator leaves the layer out of the agreement, and `parked` is how
+    many commands wait for the next checkout.
+
+    Example:
+        for it in project.progress():
+            print(it.document, it.annotator, it.state, it.annotations)  # rome ann finished 2
+    """
+
+    document: str
+    annotator: str
+    revision: int
+    state: str
+    ignored: bool
+    annotations: int
+    parked: int
+
+
+@dataclass(frozen=True)
 class Snapshot:
     """The finished layers of a text as a curator took them: the snapshot's number, from 1, and how many layers it has.
 
@@ -32,6 +67,28 @@ class Snapshot:
 
     number: int
     layers: int
+
+
+@dataclass(frozen=True)
+class Curation:
+    """How far a snapshot is decided: its number, its document, how many layers it has, and how many items these have.
+
+    `unanimous` counts the items that every layer has, whatever was decided on them, and `accepted` and `rejected` the
+    verdicts that stand; so an item that every layer has and that was rejected is counted under both. `undecided` counts
+    the items that are not unanimous and have no verdict.
+
+    Example:
+        [it.number for it in project.snapshots() if it.undecided == 0]  # the snapshots that are done
+    """
+
+    number: int
+    document: str
+    layers: int
+    items: int
+    unanimous: int
+    accepted: int
+    rejected: int
+    undecided: int
 
 
 @dataclass(frozen=True)
@@ -116,13 +173,13 @@ class Alpha:
 _CELL = re.compile(r'(?:"([^"]*(?:""[^"]*)*)"|([^",\n]*))([,\n])')
 
 
-def read_rows(csv: str) -> List[List[str]]:
-    """The rows of a table behind its header. A cell in double quotes may hold commas, quotes and line feeds.
+def read_lines(csv: str) -> List[List[str]]:
+    """All rows of a table, the header too where it has one. A cell in double quotes may hold commas, quotes and line feeds.
 
     Fields may be longer than those that the module csv reads.
 
     Example:
-        read_rows('first,second\\nann,"b, b"\\n')  # [['ann', 'b, b']]
+        read_lines('ann,"b, b"\\n')  # [['ann', 'b, b']]
     """
     rows: List[List[str]] = []
     row: List[str] = []
@@ -131,7 +188,51 @@ def read_rows(csv: str) -> List[List[str]]:
         if ending == "\n":
             rows.append(row)
             row = []
-    return rows[1:]
+    return rows
+
+
+def read_rows(csv: str) -> List[List[str]]:
+    """The rows of a table behind its header.
+
+    Example:
+        read_rows('first,second\\nann,"b, b"\\n')  # [['ann', 'b, b']]
+    """
+    return read_lines(csv)[1:]
+
+
+def read_roster(csv: str) -> List[Person]:
+    """The people from their table, which has no header.
+
+    Example:
+        read_roster("ann,annotator\\ncur,curator\\n")[1].role  # 'curator'
+    """
+    return [Person(name, role) for name, role in read_lines(csv)]
+
+
+def read_progress(csv: str) -> List[Progress]:
+    """How far each annotator is with each document, from the table of progress.
+
+    Example:
+        table = "document,annotator,revision,state,ignored,annotations,parked\\nrome,ann,1,open,false,2,0\\n"
+        read_progress(table)[0].state  # 'open'
+    """
+    return [
+        Progress(document, annotator, int(revision), state, ignored == "true", int(annotations), int(parked))
+        for document, annotator, revision, state, ignored, annotations, parked in read_rows(csv)
+    ]
+
+
+def read_snapshots(csv: str) -> List[Curation]:
+    """How far each snapshot is decided, from the table of snapshots.
+
+    Example:
+        table = "snapshot,document,holders,items,unanimous,accepted,rejected,undecided\\n1,rome,2,6,2,1,0,3\\n"
+        read_snapshots(table)[0].undecided  # 3
+    """
+    return [
+        Curation(int(number), document, *(int(count) for count in counts))
+        for number, document, *counts in read_rows(csv)
+    ]
 
 
 def read_items(csv: str) -> List[Item]:
