@@ -1,7 +1,7 @@
 #!/usr/bin/env python3
 """Curates a snapshot by a rule: what a majority of the holders have is in, and nothing else. Prints the curated layer.
 
-    python3 examples/curate.py URL CURATOR SNAPSHOT [LAYERS]
+    python3 examples/curate.py URL CURATOR SNAPSHOT
 
 It needs the client, which `pip install ./clients/python` installs. On the project of docs/getting-started.md, once ann
 and bob have finished `rome` and cur has taken a snapshot of it:
@@ -9,8 +9,7 @@ and bob have finished `rome` and cur has taken a snapshot of it:
     ./annotate serve news.book 8080 &
     python3 examples/curate.py http://127.0.0.1:8080 cur 1
 
-LAYERS is how many layers the snapshot has, as its making answered. Where it is not named, the people who have at least
-one item are counted, so that somebody who finished without a mark is not.
+Whoever finished without a mark counts among the holders too.
 
 The cells, which begin with `# %%`, may be run one by one in an editor that knows them.
 """
@@ -21,13 +20,12 @@ from typing import Set
 
 from annotate_client import DecisionRefused, Item, Project, RuleBroken
 
-if len(sys.argv) not in (4, 5):
+if len(sys.argv) != 4:
     sys.exit(__doc__)
 url, curator, snapshot = sys.argv[1], sys.argv[2], int(sys.argv[3])
 project = Project(url, curator)
 items = {item.name: item for item in project.items(snapshot)}
-holders = {holder for item in items.values() for holder in item.holders}
-layers = int(sys.argv[4]) if len(sys.argv) > 4 else len(holders)
+layers = next(it.layers for it in project.snapshots() if it.number == snapshot)
 
 
 # %% The rule

@@ -126,9 +126,9 @@ class Agreement(ServedCase):
 class ByARule(ServedCase):
     """examples/curate.py, on layers of examples/."""
 
-    def curate(self, *words: str) -> str:
+    def curate(self, snapshot: str) -> str:
         environment = {**os.environ, "PYTHONPATH": str(HERE.parent), "PYTHONDONTWRITEBYTECODE": "1"}
-        script = [sys.executable, str(EXAMPLES / "curate.py"), f"http://127.0.0.1:{self.served.port}", "cur", *words]
+        script = [sys.executable, str(EXAMPLES / "curate.py"), f"http://127.0.0.1:{self.served.port}", "cur", snapshot]
         return subprocess.run(script, env=environment, check=True, stdout=subprocess.PIPE).stdout.decode("utf-8")
 
     def test_a_majority_of_three(self) -> None:
@@ -153,7 +153,7 @@ class ByARule(ServedCase):
         # What somebody accepted against the rule goes out again, and what is in already needs no verdict.
         self.cur.accept(1, "bob/R1")
         self.cur.accept(1, "ann/T2")
-        self.assertEqual(self.curate("1", "3"), wanted)
+        self.assertEqual(self.curate("1"), wanted)
         self.assertEqual(
             [item.state for item in self.cur.items(1)],
             ["unanimous", "rejected", "accepted", "accepted", "accepted", "accepted", "rejected"],
@@ -166,9 +166,13 @@ class ByARule(ServedCase):
         self.commit(self.cid, both, finish=True)
         self.cur.take_snapshot("rome")
         wanted = "T1\tPerson 0 3\tAnn\nT2\tMeet 4 7\tmet\nE1\tMeet:T2 Who:T1\nA1\tNegation E1\n"
-        self.assertEqual(self.curate("1", "3"), wanted)
-        # Of five layers two are no majority.
-        self.assertEqual(self.curate("1", "5"), "")
+        self.assertEqual(self.curate("1"), wanted)
+        # Of two layers one is no majority, though the other has nothing.
+        self.cur.add_text("oslo", "Eva met Ole in Oslo\n")
+        self.commit(self.ann, "", "oslo", finish=True)
+        self.commit(self.bob, "T1\tPerson 0 3\tEva\n", "oslo", finish=True)
+        self.cur.take_snapshot("oslo")
+        self.assertEqual(self.curate("2"), "")
 
     def test_what_is_named_comes_in_first(self) -> None:
         self.served.end()
@@ -181,7 +185,7 @@ class ByARule(ServedCase):
         for name, ann in (("ann", ""), ("bob", both), ("cid", both)):
             self.commit(self.served.project(name), ann, finish=True)
         self.cur.take_snapshot("rome")
-        self.assertEqual(self.curate("1", "3"), both)
+        self.assertEqual(self.curate("1"), both)
 
 
 if __name__ == "__main__":
