@@ -12,7 +12,7 @@ const PART_CHARACTERS = 3200;
 const PART_LINES = 100;
 const CHARACTERS_AROUND = 40;
 
-// Who asks, and what is known of the project. The front tells the caller, and the table of pairs the annotators.
+// Who asks, and what is known of the project. The front tells the caller, and the roster the annotators.
 const project = { caller: null, isCurator: false, annotators: [] };
 
 // ---- elements
@@ -81,6 +81,24 @@ async function askHead(path, signal) {
 }
 
 const askDocuments = async (signal) => JSON.parse(await ask("docs", { signal })).docs;
+
+// What a curator is told of each layer, by the name of its document: a cell for each annotator, in the order of the roster.
+async function askProgress(signal) {
+    const cells = new Map();
+    for (const [name, annotator, revision, state, ignored, annotations, parked] of readCsv(await ask("progress", { signal }))) {
+        if (!cells.has(name)) cells.set(name, []);
+        const isCommitted = revision !== "0";
+        const count = isCommitted ? Number(annotations) : null;
+        cells.get(name).push({ annotator, state, isCommitted, count, isIgnored: ignored === "true", parked: Number(parked) });
+    }
+    return cells;
+}
+
+// The snapshots as they were taken, numbered from 1 without a gap.
+async function askSnapshots(signal) {
+    return readCsv(await ask("snapshots", { signal })).map(([number, name, layers, , , , , undecided]) =>
+        ({ number: Number(number), name, layers: Number(layers), undecided: Number(undecided) }));
+}
 
 // The committed layer of an annotator, or null.
 async function askLayer(name, annotator, signal) {
@@ -151,8 +169,11 @@ function hideTrouble() {
 
 // ---- reading what the server writes
 
-// The rows of a table, behind its header. Each row ends with a line feed.
-function readCsv(text) {
+// The rows of a table, behind its header.
+const readCsv = (text) => readRows(text).slice(1);
+
+// All rows of a table. Each row ends with a line feed.
+function readRows(text) {
     const rows = [];
     let row = [];
     for (const [, quoted, plain, end] of text.matchAll(/(?:"([^"]*(?:""[^"]*)*)"|([^",\n]*))(,|\n)/g)) {
@@ -162,7 +183,7 @@ function readCsv(text) {
             row = [];
         }
     }
-    return rows.slice(1);
+    return rows;
 }
 
 // A line of a layer. `links` are the roles and IDs of what it names, the trigger of an event first.
@@ -254,96 +275,147 @@ function directionOf(line) {
 
 // ---- documents
 
-const documents = { rows: [], first: 0, total: 0, isCounted: false };
+// The rows of the project, and the part of them that is shown: from a place on, by an order of the whole project.
+const documents = { rows: [], first: 0, part: [], order: null };
+
+const missing = ({ cells }) => cells.filter((cell) => !cell.isCommitted).length;
+const finished = ({ cells }) => cells.filter((cell) => cell.state === "finished").length;
+const unfinished = ({ cells }) => cells.length - finished({ cells });
+const isCounted = () => documents.part.length > 0 && documents.part.every((row) => row.differing !== undefined);
+
+// The orders of rows, each with what the rows that stand first have most of, and then most of; else as they were added.
+const ORDERS = {
+    unfinished: ["most unfinished layers first", unfinished, missing],
+    finished: ["most finished layers first", finished],
+    missing: ["most layers missing first", missing],
+    added: ["as they were added"],
+    differing: ["most differing spans first, of these rows", (row) => row.differing ?? -1],
+};
+
+function fillOrders() {
+    const names = project.isCurator ? ["unfinished", "finished", "added", "differing"] : ["missing", "added", "differing"];
+    documents.order = names[0];
+    fillSelect(by("documents-order"), names.map((name) => [name, ORDERS[name][0]]), documents.order);
+}
+
+function sorted(rows) {
+    const [, ...weights] = ORDERS[by("documents-order").value];
+    const compare = (one, other) => weights.reduce((known, weigh) => known || weigh(other) - weigh(one), 0);
+    return [...rows].sort((one, other) => compare(one, other) || one.place - other.place);
+}
 
 async function showDocuments([page], signal) {
-    const all = await askDocuments(signal);
-    const pages = Math.max(1, Math.ceil(all.length / ROWS_OF_DOCUMENTS));
-    const shown = Math.min(Math.max(1, Number(page) || 1), pages);
-    Object.assign(documents, { first: (shown - 1) * ROWS_OF_DOCUMENTS, total: all.length, isCounted: false, rows: [] });
-    const part = all.slice(documents.first, documents.first + ROWS_OF_DOCUMENTS);
-    say(`Asking for the layers of ${counted(part.length, "document")} …`);
-    const rows = [];
-    for (const [place, { name, characters }] of part.entries()) {
-        rows.push({ name, characters, place, cells: await askCells(name, signal), differing: null });
-    }
-    documents.rows = rows;
+    say("Asking for the documents …");
+    const [all, progress] = await Promise.all([askDocuments(signal), project.isCurator ? askProgress(signal) : new Map()]);
+    // A text that was added between the two answers is shown the next time.
+    const known = project.isCurator ? all.filter(({ name }) => progress.has(name)) : all;
+    const rows = known.map(({ name, characters }, place) => ({ name, characters, place, cells: progress.get(name) }));
+    const pages = Math.max(1, Math.ceil(rows.length / ROWS_OF_DOCUMENTS));
+    const first = (Math.min(Math.max(1, Number(page) || 1), pages) - 1) * ROWS_OF_DOCUMENTS;
+    by("documents-order").value = documents.order;
+    const part = partFrom(first, rows);
+    if (!project.isCurator) await askCells(part, signal);
+    Object.assign(documents, { rows, first, part });
     drawDocuments();
     say("");
 }
 
-// For each annotator whether a layer is committed, and whether anything is in it.
-function askCells(name, signal) {
-    return Promise.all(project.annotators.map(async (annotator) => {
-        const head = await askHead(`docs/${name}/layers/${annotator}`, signal);
-        const state = head === null ? "none" : head.get("Content-Length") === "0" ? "empty" : "marked";
-        return { annotator, state, count: null };
-    }));
+// The rows that are shown at a time: by the order of the whole project, where the states of all are known.
+function partFrom(first, rows) {
+    return (project.isCurator ? sorted(rows) : rows).slice(first, first + ROWS_OF_DOCUMENTS);
+}
+
+// Asks for some rows whether the annotator has committed a layer, and whether anything is in it.
+async function askCells(rows, signal) {
+    for (const row of rows) {
+        row.cells = await Promise.all(project.annotators.map(async (annotator) => {
+            const head = await askHead(`docs/${row.name}/layers/${annotator}`, signal);
+            const state = head === null ? "none" : head.get("Content-Length") === "0" ? "empty" : "marked";
+            return { annotator, state, isCommitted: head !== null, count: null, isIgnored: false, parked: 0 };
+        }));
+    }
 }
 
 // Reads the layers of the rows shown, and counts what is in them.
 async function countDocuments(signal) {
-    const { rows } = documents;
+    const { part } = documents;
     say("Counting …");
-    for (const row of rows) {
-        const committed = row.cells.filter((cell) => cell.state !== "none");
-        const layers = await Promise.all(committed.map((cell) => askLayer(row.name, cell.annotator, signal)));
-        for (const [place, cell] of committed.entries()) cell.count = layers[place].things.size;
+    for (const row of part) {
+        const committed = row.cells.filter((cell) => cell.isCommitted);
+        const isAsked = committed.length > 1 || !project.isCurator;
+        const layers = isAsked ? await Promise.all(committed.map((cell) => askLayer(row.name, cell.annotator, signal))) : [];
+        for (const [place, layer] of layers.entries()) committed[place].count = annotationsOf(layer);
         row.differing = layers.length < 2 ? null : differingSpans(layers).size;
     }
-    documents.isCounted = true;
+    if (documents.part !== part) return;
     by("documents-order").value = "differing";
     drawDocuments();
     say("Counted; the most differing spans stand first.");
 }
 
-const missing = (row) => row.cells.filter((cell) => cell.state === "none").length;
+// How many annotations a layer has; classes are none.
+const annotationsOf = (layer) => [...layer.things.values()].filter((thing) => thing.kind !== "*").length;
 
-function sortedRows() {
-    const weigh = {
-        missing: (row) => -missing(row),
-        added: () => 0,
-        differing: (row) => -(row.differing ?? -1),
-    }[by("documents-order").value];
-    return [...documents.rows].sort((one, other) => weigh(one) - weigh(other) || one.place - other.place);
+// An order of the whole project is shown from its first row on.
+function orderDocuments() {
+    const order = by("documents-order").value;
+    if (order !== "differing") documents.order = order;
+    if (order !== "differing" && project.isCurator) {
+        Object.assign(documents, { first: 0, part: partFrom(0, documents.rows) });
+        history.replaceState(null, "", "#/documents/1");
+    }
+    drawDocuments();
 }
 
 function drawDocuments() {
-    const { first, total, rows, isCounted } = documents;
-    by("documents-summary").textContent = summaryOfDocuments(total);
-    by("documents-order").querySelector('[value="differing"]').disabled = !isCounted;
-    if (!isCounted && by("documents-order").value === "differing") by("documents-order").value = "missing";
-    by("documents-count").disabled = rows.length === 0;
-    by("documents-shown").textContent = rows.length === 0 ? "none" : `${first + 1} to ${first + rows.length} of ${total}`;
+    const { first, rows, part } = documents;
+    by("documents-summary").textContent = summaryOfDocuments();
+    by("documents-order").querySelector('[value="differing"]').disabled = !isCounted();
+    by("documents-count").disabled = part.length === 0;
+    by("documents-shown").textContent = part.length === 0 ? "none" : `${first + 1} to ${first + part.length} of ${rows.length}`;
     by("documents-before").disabled = first === 0;
-    by("documents-after").disabled = first + rows.length >= total;
-    const heads = ["Document", "Characters", ...project.annotators, "Layers missing", ...(isCounted ? ["Spans that differ"] : [])];
+    by("documents-after").disabled = first + part.length >= rows.length;
+    const sums = [project.isCurator ? "Finished" : "Layers missing", ...(isCounted() ? ["Spans that differ"] : [])];
+    const heads = ["Document", "Characters", ...project.annotators, ...sums];
     by("documents-table").tHead.replaceChildren(make("tr", {}, ...heads.map((head) => make("th", { scope: "col" }, head))));
-    by("documents-table").tBodies[0].replaceChildren(...sortedRows().map(drawDocument));
+    by("documents-table").tBodies[0].replaceChildren(...sorted(part).map(drawDocument));
 }
 
-function summaryOfDocuments(total) {
-    const people = counted(project.annotators.length, "annotator");
-    if (!project.isCurator) return `${counted(total, "document")}. You see your own layers, and no others.`;
-    if (project.annotators.length > 0) return `${counted(total, "document")}, ${people}.`;
-    return `${counted(total, "document")}. The server names annotators in pairs alone, and this project has no two, so their layers cannot be shown to you.`;
+function summaryOfDocuments() {
+    const total = counted(documents.rows.length, "document");
+    if (!project.isCurator) return `${total}. You see your own layers, and no others.`;
+    const cells = documents.rows.flatMap((row) => row.cells);
+    const [done, out] = ["finished", "out"].map((state) => cells.filter((cell) => cell.state === state).length);
+    return `${total}, ${counted(project.annotators.length, "annotator")}: ${done} of ${counted(cells.length, "layer")} finished, ${out} out.`;
 }
 
 function drawDocument(row) {
     const link = make("a", { href: `#/text/${row.name}` }, row.name);
-    const absent = missing(row);
     const cells = [
         make("td", { class: "number" }, String(row.characters)),
         ...row.cells.map(drawCell),
-        make("td", { class: "number" }, `${absent} of ${row.cells.length}`),
+        make("td", { class: "number" }, `${project.isCurator ? finished(row) : missing(row)} of ${row.cells.length}`),
     ];
-    if (documents.isCounted) cells.push(make("td", { class: "number" }, row.differing === null ? "–" : String(row.differing)));
+    if (isCounted()) cells.push(make("td", { class: "number" }, row.differing === null ? "–" : String(row.differing)));
     return make("tr", { "data-document": row.name }, make("th", { scope: "row" }, link), ...cells);
 }
 
-function drawCell({ annotator, state, count }) {
-    const words = { none: "○ none", empty: "◐ empty", marked: count === null ? "● marks" : `● ${count}` }[state];
-    return make("td", { "data-annotator": annotator }, make("span", { class: `state ${state}` }, words));
+// What is known of a layer. The sign and the words tell a state where its colour does not.
+function drawCell({ annotator, state, count, isIgnored, parked }) {
+    const number = count === null ? "" : ` ${count}`;
+    const words = {
+        none: "○ none",
+        open: `◐ open${number}`,
+        out: `✎ out${number}`,
+        finished: `✓ finished${number}`,
+        empty: "◐ empty",
+        marked: count === null ? "● marks" : `●${number}`,
+    }[state];
+    const notes = [...(parked > 0 ? [`${parked} parked`] : []), ...(isIgnored ? ["⊘ ignored"] : [])];
+    return make("td", { "data-annotator": annotator },
+        make("span", { class: `state ${state}` }, words),
+        ...notes.map((note) => make("span", { class: "note" }, note)),
+    );
 }
 
 function turnDocuments(pages) {
@@ -673,46 +745,36 @@ function nameOf(layer, id) {
 
 // ---- curation
 
-const curation = { count: 0, number: null, items: [], names: new Map(), first: 0, focused: null, documents: new Map() };
+const curation = { snapshots: [], number: null, items: [], names: new Map(), first: 0, focused: null, around: null };
 
 async function showCuration([number], signal) {
-    const [count, all] = await Promise.all([countSnapshots(signal), askDocuments(signal)]);
-    curation.count = count;
-    const names = all.map((it) => it.name);
+    const [progress, snapshots] = await Promise.all([askProgress(signal), askSnapshots(signal)]);
+    const last = snapshots.length;
+    const names = [...progress.keys()];
     const wanted = Number(number);
-    fillSelect(by("curation-document"), [["", "no document"], ...names.map((name) => [name, name])], names.length === 1 ? names[0] : "");
+    curation.snapshots = snapshots;
+    const choices = [...progress].map(([name, cells]) => [name, `${name}: ${finished({ cells })} finished`]);
+    fillSelect(by("curation-document"), [["", "no document"], ...choices], names.length === 1 ? names[0] : "");
     by("curation-client").textContent = [...clientHead(), `    project.finish("${names[0] ?? "NAME"}")`].join("\n");
-    await openSnapshot(wanted >= 1 && wanted <= count ? wanted : count, signal);
-    if (wanted > count) showTrouble(new Refusal(`GET snapshots/${wanted}/items`, 404, "NoSnapshot", null));
-}
-
-// Snapshots are numbered from 1 without a gap: the last one is found by doubling, and then by halves.
-async function countSnapshots(signal) {
-    const isThere = async (number) => (await askHead(`snapshots/${number}/items`, signal)) !== null;
-    let above = 1;
-    while (await isThere(above)) above *= 2;
-    let there = Math.floor(above / 2);
-    while (above - there > 1) {
-        const middle = Math.floor((above + there) / 2);
-        if (await isThere(middle)) there = middle;
-        else above = middle;
-    }
-    return there;
+    await openSnapshot(wanted >= 1 && wanted <= last ? wanted : last, signal);
+    if (wanted > last) showTrouble(new Refusal(`GET snapshots/${wanted}/items`, 404, "NoSnapshot", null));
 }
 
 async function openSnapshot(number, signal) {
-    const numbers = Array.from({ length: curation.count }, (_, place) => [place + 1, String(place + 1)]);
-    fillSelect(by("curation-number"), numbers.length === 0 ? [[0, "none"]] : numbers, number);
+    const choices = curation.snapshots.map((it) => [it.number, choiceOf(it)]);
+    fillSelect(by("curation-number"), choices.length === 0 ? [[0, "none"]] : choices, number);
     Object.assign(curation, { number, items: [], names: new Map(), first: 0, focused: null, around: null });
     by("curation-curated").open = false;
     if (number > 0) {
         history.replaceState(null, "", `#/curation/${number}`);
-        await askItems(signal);
-        if (curation.documents.has(number)) by("curation-document").value = curation.documents.get(number);
+        await Promise.all([askItems(signal), askAround(signal)]);
     }
-    await askAround(signal);
     drawItems();
 }
+
+const shownSnapshot = () => curation.snapshots[curation.number - 1];
+
+const choiceOf = ({ number, name, undecided }) => `${number}, ${name}: ${undecided} undecided`;
 
 // The items of the snapshot that is shown, as they stand now.
 async function askItems(signal) {
@@ -724,23 +786,16 @@ async function askItems(signal) {
         return { name, holder, id, holders, state, line, thing: readLine(`${id}\t${line}`, 0) };
     });
     curation.names = new Map(curation.items.map((item) => [item.name, item]));
+    shownSnapshot().undecided = curation.items.filter(FILTERS.undecided).length;
+    by("curation-number").selectedOptions[0].textContent = choiceOf(shownSnapshot());
 }
 
-// The text of the document that is chosen, where the spans of the snapshot are spans of it.
+// The text of the snapshot's document.
 async function askAround(signal) {
-    const name = by("curation-document").value;
-    curation.around = null;
-    if (name === "" || curation.number === 0) return;
-    const characters = Array.from(await ask(`docs/${name}/text`, { signal }));
-    const other = curation.items.find((item) => item.thing.kind === "T" && !hasWords(characters, item.thing));
-    if (other === undefined) curation.around = characters.map((character) => (character === "\n" ? " " : character));
-    else say(`Snapshot ${curation.number} is of another document than ${name}: ${other.name} has other words.`);
-}
-
-// Whether a span has the words of the text at its offsets.
-function hasWords(characters, { fragments, text: words }) {
-    const plain = (some) => some.replace(/[\r\n]/g, " ");
-    return plain(fragments.map(([from, to]) => characters.slice(from, to).join("")).join(" ")) === plain(words);
+    const { number } = curation;
+    const words = await ask(`docs/${shownSnapshot().name}/text`, { signal });
+    if (number !== curation.number) return;
+    curation.around = Array.from(words, (character) => (character === "\n" ? " " : character));
 }
 
 const FILTERS = {
@@ -761,16 +816,21 @@ function drawItems() {
     by("curation-shown").textContent = shown.length === 0 ? "none" : `${curation.first + 1} to ${curation.first + shown.length} of ${filtered.length}`;
     by("curation-before").disabled = curation.first === 0;
     by("curation-after").disabled = curation.first + shown.length >= filtered.length;
-    by("curation-snap").disabled = by("curation-document").value === "";
     by("curation-curated").hidden = curation.number === 0;
+    allowSnapshot();
     by("curation-items").tBodies[0].replaceChildren(...shown.map(drawItem));
+}
+
+function allowSnapshot() {
+    by("curation-snap").disabled = by("curation-document").value === "";
 }
 
 function summaryOfItems() {
     if (curation.number === 0) return "No snapshot was taken yet. Choose a document of which two layers or more are finished, and take one.";
     const states = ["unanimous", "undecided", "accepted", "rejected"];
     const counts = states.map((state) => `${curation.items.filter((item) => item.state === state).length} ${state}`);
-    return `Snapshot ${curation.number} of ${curation.count}: ${counted(curation.items.length, "item")}, ${counts.join(", ")}.`;
+    const { number, name, layers } = shownSnapshot();
+    return `Snapshot ${number} of ${curation.snapshots.length}, ${layers} layers of ${name}: ${counted(curation.items.length, "item")}, ${counts.join(", ")}.`;
 }
 
 const STATES = { unanimous: "= unanimous", undecided: "? undecided", accepted: "✓ accepted", rejected: "✗ rejected" };
@@ -898,8 +958,7 @@ function goToItem(name) {
 async function takeSnapshot(signal) {
     const name = by("curation-document").value;
     const { layers, snapshot } = JSON.parse(await ask(`docs/${name}/snapshots`, { method: "POST" }));
-    curation.documents.set(snapshot, name);
-    curation.count = Math.max(curation.count, snapshot);
+    curation.snapshots = await askSnapshots(signal);
     await openSnapshot(snapshot, signal);
     say(`Snapshot ${snapshot} was taken, of ${layers} layers of ${name}.`);
 }
@@ -1045,7 +1104,7 @@ function turnItems(step) {
 
 function listen() {
     addEventListener("hashchange", showView);
-    by("documents-order").addEventListener("change", drawDocuments);
+    by("documents-order").addEventListener("change", orderDocuments);
     by("documents-count").addEventListener("click", attempt(countDocuments));
     by("documents-before").addEventListener("click", () => turnDocuments(-1));
     by("documents-after").addEventListener("click", () => turnDocuments(1));
@@ -1058,27 +1117,26 @@ function listen() {
     by("curation-filter").addEventListener("change", () => turnItems(0));
     by("curation-before").addEventListener("click", () => turnItems(-1));
     by("curation-after").addEventListener("click", () => turnItems(1));
-    by("curation-document").addEventListener("change", attempt(async (signal) => {
-        say("");
-        await askAround(signal);
-        drawItems();
-    }));
+    by("curation-document").addEventListener("change", allowSnapshot);
     by("curation-snap").addEventListener("click", attempt(takeSnapshot));
     by("curation-curated").addEventListener("toggle", attempt(showCurated));
     by("agreement-matrix").addEventListener("keydown", keyOnMatrix);
 }
 
-// A curator is told the annotators by the table of pairs, and whoever is told nothing by it is an annotator.
+// A curator is told by the roster who takes part, and whoever is told nothing by it is an annotator.
 async function meet() {
     try {
-        const rows = readCsv(await ask("agreement/pairs"));
+        const people = readRows(await ask("roster"));
         project.isCurator = true;
-        project.annotators = [...new Set(rows.flatMap(([first, second]) => [first, second]))];
+        project.annotators = people.filter(([, role]) => role === "annotator").map(([name]) => name);
     } catch (error) {
         if (error.refused !== "NotAllowed" || error.of !== "Curator") throw error;
         project.annotators = project.caller === null ? [] : [project.caller];
     }
-    by("who").textContent = `${project.caller ?? "unnamed"}, ${project.isCurator ? "curator" : "annotator"}`;
+    const role = project.isCurator ? "curator" : "annotator";
+    by("who").textContent = `${project.caller ?? "unnamed"}, ${role}`;
+    for (const it of document.querySelectorAll("[data-for]")) it.hidden = it.dataset.for !== role;
+    fillOrders();
 }
 
 async function start() {

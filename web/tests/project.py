@@ -80,6 +80,11 @@ TEXTS: Dict[str, str] = {
     **{f"d{number:02}": f"text {number}\n" for number in range(1, 16)},
     "long": LONG,
 }
+# Spans that are parked and not committed.
+DRAFTS: Dict[Tuple[str, str], Tuple[Tuple[int, int], ...]] = {("empty", "cid"): ((0, 7), (8, 12)), ("hostile", "ann"): ((9, 15),)}
+# Layers that are on a desk all the while, one of them behind a commit, and one that is ignored.
+OUT = (("signs", "bob"), ("lima", "cid"))
+IGNORED = ("hebrew", "ann")
 FINISHED = (("rome", "ann"), ("rome", "bob"), ("many", "ann"), ("many", "bob"), ("lanes", "bob"), ("lanes", "cid"))
 
 
@@ -106,8 +111,14 @@ class Tried:
                 if lines:
                     desk.load(lines)
                 desk.commit()
+        for (name, annotator), places in DRAFTS.items():
+            with self.project(annotator).desk(name) as desk:
+                for place in places:
+                    desk.add_span("Person", place)
         for name, annotator in FINISHED:
             self.project(annotator).finish(name)
+        curator.ignore(*IGNORED)
+        self._desks = [self.project(annotator).desk(name) for name, annotator in OUT]
 
     def project(self, caller: str) -> Project:
         return Project(f"http://127.0.0.1:{self.served.port}", caller, timeout=100)

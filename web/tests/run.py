@@ -31,7 +31,8 @@ sys.dont_write_bytecode = True
 sys.path.insert(0, str(Path(__file__).resolve().parent))
 
 from browser import Browser, Page  # noqa: E402
-from project import LONG, FirstPage, Tried  # noqa: E402
+from project import LONG, ROME, FirstPage, Tried  # noqa: E402
+from served import Haproxy, Served  # noqa: E402
 
 # The lanes of the text view, line by line. A label stands in [], a mark in {}, and ≠ behind each that not every layer has.
 LANES = """[...document.querySelectorAll('#text-lines li')].map((li) => [...li.querySelectorAll('dd')].map((dd) =>
@@ -132,52 +133,73 @@ def front(checks: Checks, tried: Tried) -> None:
 def documents(checks: Checks, tried: Tried, page: Page) -> None:
     checks.true("the documents are shown", go(page, tried, "cur", "", "#documents"))
     checks.same("who is signed in", "cur, curator", text_of(page, "#who"))
-    checks.same("how many there are", "24 documents, 4 annotators.", text_of(page, "#documents-summary"))
+    checks.same("how many there are", "24 documents, 4 annotators: 6 of 96 layers finished, 2 out.", text_of(page, "#documents-summary"))
     rows = page.run(ROWS % "#documents-table")
-    checks.same("the head of the table", ["Document", "Characters", "__proto__", "ann", "bob", "cid", "Layers missing"], rows[0])
+    checks.same("the head of the table", ["Document", "Characters", "__proto__", "ann", "bob", "cid", "Finished"], rows[0])
+    # Nobody has finished these; of the last five one layer is committed, and of all others none.
+    unfinished = [f"d{it:02}" for it in range(1, 16)] + ["lima", "empty", "hostile", "hebrew", "signs"]
+    checks.same("the most unfinished layers stand first, of these the most that are missing", unfinished, [row[0] for row in rows[1:]])
     wanted = [
-        ["lanes", "36", "○ none", "● marks", "● marks", "● marks", "1 of 4"],
-        ["rome", "20", "○ none", "● marks", "● marks", "○ none", "2 of 4"],
-        ["many", "240", "○ none", "● marks", "◐ empty", "○ none", "2 of 4"],
-        ["lima", "19", "○ none", "○ none", "○ none", "● marks", "3 of 4"],
-        ["empty", "13", "○ none", "◐ empty", "○ none", "○ none", "3 of 4"],
+        ["lima", "19", "○ none", "○ none", "○ none", "✎ out 1", "0 of 4"],
+        ["empty", "13", "○ none", "◐ open 0", "○ none", "○ none\n2 parked", "0 of 4"],
+        ["hebrew", "47", "○ none", "◐ open 3\n⊘ ignored", "○ none", "○ none", "0 of 4"],
+        ["signs", "16", "○ none", "◐ open 2", "✎ out", "○ none", "0 of 4"],
     ]
     found = {row[0]: row for row in rows}
     for row in wanted:
         checks.same(f"the row of {row[0]}", row, found.get(row[0]))
-    names = [row[0] for row in rows[1:]]
-    missing = [f"d{it:02}" for it in range(1, 13)] + ["lima", "empty", "hostile", "hebrew", "signs", "rome", "many", "lanes"]
-    checks.same("the most layers missing stand first", missing, names)
+    checks.same("a draft behind a commit", "◐ open 3\n1 parked", found["hostile"][3])
     plain = [it.replace("cur:cur-secret@", "").split(" ", 1)[1] for it in page.requests]
     asked = [it[len(tried.address) :] for it in plain if it.startswith(f"{tried.address}/page/")]
     checks.same("all is asked of this front", [], [it for it in plain if not it.startswith(tried.address.replace("/news", "/")) and it != "about:blank"])
-    checks.same("two requests, and a HEAD for each cell", (1, 1, 80, 85), (asked.count("/page/docs"), asked.count("/page/agreement/pairs"), sum("/layers/" in it for it in asked), len(asked)))
-    checks.same("and no layer", 80, sum(it.startswith("HEAD ") for it in page.requests))
-    page.choose("#documents-order", "added")
-    checks.same("as they were added", ["rome", "lima", "empty"], [row[0] for row in page.run(ROWS % "#documents-table tbody")][:3])
-    checks.same("the rows of this page", "1 to 20 of 24", text_of(page, "#documents-shown"))
-    page.click("#documents-count")
-    page.wait("document.querySelector('#documents-table thead').innerText.includes('differ')", 60)
-    found = {row[0]: row for row in page.run(ROWS % "#documents-table")}
-    counted = [
-        ["rome", "20", "○ none", "● 2", "● 6", "○ none", "2 of 4", "2"],
-        ["lanes", "36", "○ none", "● 4", "● 6", "● 9", "1 of 4", "5"],
-        ["many", "240", "○ none", "● 60", "◐ empty", "○ none", "2 of 4", "60"],
-        ["signs", "16", "○ none", "● 2", "○ none", "○ none", "3 of 4", "–"],
-    ]
-    for row in counted:
-        checks.same(f"what is counted in {row[0]}", row, found.get(row[0]))
-    checks.same("the most differing first", ["many", "lanes", "rome", "lima"], [row[0] for row in page.run(ROWS % "#documents-table tbody")][:4])
+    checks.same("three files and three requests", [f"/page/{it}" for it in ("", "docs", "page.js", "progress", "roster", "style.css")], sorted(asked))
     checks.picture(page, "documents")
     page.click("#documents-after")
     page.wait("document.querySelector('#documents-shown').innerText.startsWith('21')")
     rows = page.run(ROWS % "#documents-table tbody")
-    checks.same("the second page", ["d13", "d14", "d15", "long"], [row[0] for row in rows])
-    checks.same("its last row", ["long", "200000", "○ none", "● marks", "○ none", "● marks", "2 of 4"], rows[-1])
+    wanted = [
+        ["long", "200000", "○ none", "◐ open 2500", "○ none", "◐ open 2499", "0 of 4"],
+        ["rome", "20", "○ none", "✓ finished 2", "✓ finished 6", "○ none", "2 of 4"],
+        ["many", "240", "○ none", "✓ finished 60", "✓ finished 0", "○ none", "2 of 4"],
+        ["lanes", "36", "○ none", "◐ open 3", "✓ finished 6", "✓ finished 9", "2 of 4"],
+    ]
+    checks.same("the second page, in the same order", wanted, rows)
+    page.choose("#documents-order", "finished")
+    names = "[...document.querySelectorAll('#documents-table tbody tr')].map((row) => row.dataset.document)"
+    checks.same("the most finished layers first, of the whole project", ["rome", "lanes", "many", "lima", "empty"], page.run(names)[:5])
+    checks.same("from the first row on", "1 to 20 of 24", text_of(page, "#documents-shown"))
+    before = len(page.requests)
+    page.choose("#documents-order", "added")
+    checks.same("as they were added", ["rome", "lima", "empty"], page.run(names)[:3])
+    checks.same("without a request", before, len(page.requests))
+    counting(checks, page)
+
+
+def counting(checks: Checks, page: Page) -> None:
+    """The spans that differ in the documents as they were added."""
+    is_counted = "document.querySelector('#documents-table thead').innerText.includes('differ')"
+    before = len(page.requests)
     page.click("#documents-count")
-    page.wait("document.querySelector('#documents-table thead').innerText.includes('differ')", 60)
+    page.wait(is_counted, 60)
+    found = {row[0]: row for row in page.run(ROWS % "#documents-table")}
+    counted = [
+        ["rome", "20", "○ none", "✓ finished 2", "✓ finished 6", "○ none", "2 of 4", "2"],
+        ["lanes", "36", "○ none", "◐ open 3", "✓ finished 6", "✓ finished 9", "2 of 4", "5"],
+        ["many", "240", "○ none", "✓ finished 60", "✓ finished 0", "○ none", "2 of 4", "60"],
+        ["signs", "16", "○ none", "◐ open 2", "✎ out", "○ none", "0 of 4", "–"],
+    ]
+    for row in counted:
+        checks.same(f"what is counted in {row[0]}", row, found.get(row[0]))
+    checks.same("by the seven layers of texts that have two or more", 7, len(page.requests) - before)
+    checks.same("the most differing first", ["many", "lanes", "rome", "lima"], [row[0] for row in page.run(ROWS % "#documents-table tbody")][:4])
+    checks.picture(page, "counted")
+    page.click("#documents-after")
+    page.wait("document.querySelector('#documents-shown').innerText.startsWith('21')")
+    checks.same("the second page, as they were added", ["d13", "d14", "d15", "long"], [row[0] for row in page.run(ROWS % "#documents-table tbody")])
+    page.click("#documents-count")
+    page.wait(is_counted, 60)
     rows = page.run(ROWS % "#documents-table tbody")
-    checks.same("what is counted in long", ["long", "200000", "○ none", "● 2500", "○ none", "● 2499", "2 of 4", "1"], rows[0])
+    checks.same("what is counted in long", ["long", "200000", "○ none", "◐ open 2500", "○ none", "◐ open 2499", "0 of 4", "1"], rows[0])
 
 
 # ---- one text
@@ -185,6 +207,7 @@ def documents(checks: Checks, tried: Tried, page: Page) -> None:
 
 def rome(checks: Checks, tried: Tried, page: Page) -> None:
     go(page, tried, "cur", "#/documents", "#documents")
+    page.choose("#documents-order", "added")
     before = len(page.requests)
     page.click("a[href='#/text/rome']")
     checks.true("a text is opened by a click", page.wait(IS_OPEN % ("#text", "#text")))
@@ -304,6 +327,9 @@ def long(checks: Checks, tried: Tried, page: Page) -> None:
 # ---- curation
 
 STATES = "[...document.querySelectorAll('#curation-items tbody tr')].map((row) => row.dataset.item + ' ' + row.querySelector('.verdict').className.split(' ')[1])"
+CHOICES = "[...document.querySelectorAll('%s option')].map((it) => it.textContent)"
+AROUND = "[...document.querySelectorAll('#curation-items .around mark')].map((it) => it.textContent)"
+AROUND_ROME = ["Ann", "Bob", "Rome", "met", "met"]
 ITEMS = ["ann/T1", "ann/T2", "bob/T3", "bob/T9", "bob/E1", "bob/R1"]
 
 
@@ -321,6 +347,8 @@ def settled(page: Page, words: str) -> str:
 def curate(checks: Checks, tried: Tried, page: Page) -> None:
     checks.true("the view of curation", go(page, tried, "cur", "#/curation", "#curation"))
     checks.true("says that there is no snapshot", text_of(page, "#curation-summary").startswith("No snapshot was taken yet."))
+    choices = page.run(CHOICES % "#curation-document")
+    checks.same("which documents can be curated", ["no document", "rome: 2 finished", "lima: 0 finished"], choices[:3])
     page.choose("#curation-document", "lima")
     page.wait("!document.querySelector('#curation-snap').disabled")
     page.click("#curation-snap")
@@ -330,11 +358,12 @@ def curate(checks: Checks, tried: Tried, page: Page) -> None:
     page.choose("#curation-document", "rome")
     page.click("#curation-snap")
     checks.same("a snapshot is taken", "Snapshot 1 was taken, of 2 layers of rome.", settled(page, "was taken"))
+    checks.same("how far it is decided", ["1, rome: 4 undecided"], page.run(CHOICES % "#curation-number"))
     checks.same("the items in their order", states(), page.run(STATES))
     rows = page.run(ROWS % "#curation-items tbody")
     checks.same("who has them", ["ann bob", "ann bob", "bob", "bob", "bob", "bob"], [row[2] for row in rows])
     checks.same("how a span is told", "Person Ann 0 3 Ann met Bob in Rome", " ".join(rows[0][1].split()))
-    checks.same("the words around", ["Ann", "Bob", "Rome", "met", "met"], page.run("[...document.querySelectorAll('#curation-items .around mark')].map((it) => it.textContent)"))
+    checks.same("the words around", AROUND_ROME, page.run(AROUND))
     checks.same("an event, with the spans that can be told", "Meet:T9 Who:T1 Who2:T2 Place:T3 T9: Meet met T3: Location Rome Ann met Bob in Rome", " ".join(rows[4][1].split()))
     decide(checks, tried, page)
     checks.picture(page, "curation")
@@ -376,6 +405,7 @@ def decide(checks: Checks, tried: Tried, page: Page) -> None:
     page.click(row % "ann/T2" + " button:nth-of-type(3)")
     checks.same("taken back by click", "ann/T2 is unanimous. 2 verdicts stand.", settled(page, "unanimous"))
     final = states(bob_T3="accepted", bob_R1="accepted")
+    checks.same("two of its items are undecided", ["1, rome: 2 undecided"], page.run(CHOICES % "#curation-number"))
     checks.same("the server has what was decided", final, [" ".join(it) for it in tried.items(1)])
     checks.same("and the page shows it", final, page.run(STATES))
     page.click(row % "ann/T1" + " button:nth-of-type(1)")
@@ -387,11 +417,11 @@ def decide(checks: Checks, tried: Tried, page: Page) -> None:
 
 def more_items(checks: Checks, tried: Tried, page: Page) -> None:
     page.choose("#curation-document", "many")
-    page.wait("document.querySelector('#status').innerText.includes('another document')")
-    checks.same("a snapshot of another document", "Snapshot 1 is of another document than many: ann/T1 has other words.", text_of(page, "#status"))
+    checks.same("the words around stay those of the snapshot", AROUND_ROME, page.run(AROUND))
     page.click("#curation-snap")
     settled(page, "Snapshot 2 was taken")
-    checks.same("a second snapshot", "Snapshot 2 of 2: 60 items, 0 unanimous, 60 undecided, 0 accepted, 0 rejected.", text_of(page, "#curation-summary"))
+    checks.same("a second snapshot", "Snapshot 2 of 2, 2 layers of many: 60 items, 0 unanimous, 60 undecided, 0 accepted, 0 rejected.", text_of(page, "#curation-summary"))
+    checks.same("with the words of its own document", ["w00", "w01"], page.run(AROUND)[:2])
     page.click("#curation-after")
     checks.same("the items behind the fiftieth", [f"ann/T{it} undecided" for it in range(51, 61)], page.run(STATES))
     page.run("document.querySelector('#curation-items tr[data-item=\"ann/T52\"]').focus()")
@@ -420,7 +450,19 @@ def more_items(checks: Checks, tried: Tried, page: Page) -> None:
     said = trouble(page, "AttributeThere")
     checks.true("a rule that would be broken is named", "AttributeThere, which names A1" in said and "would break this rule" in said)
     page.choose("#curation-number", "1")
-    checks.true("the first one again", page.wait("document.querySelector('#curation-summary').innerText.startsWith('Snapshot 1 of 3: 6 items, 2 unanimous, 2 undecided, 2 accepted')"))
+    checks.true("the first one again", page.wait("document.querySelector('#curation-summary').innerText.startsWith('Snapshot 1 of 3, 2 layers of rome: 6 items, 2 unanimous, 2 undecided, 2 accepted')"))
+    checks.same("with its words", AROUND_ROME, page.run(AROUND))
+    # Of lanes bob and cid have all in common but an attribute each, of which one is accepted, and a reference.
+    wanted = ["1, rome: 2 undecided", "2, many: 56 undecided", "3, lanes: 2 undecided"]
+    checks.same("how far each snapshot is decided", wanted, page.run(CHOICES % "#curation-number"))
+    page.click("nav a[href='#/documents']")
+    page.wait(IS_OPEN % ("#documents", "#documents"))
+    before = len(page.requests)
+    page.click("nav a[href='#/curation']")
+    page.wait(IS_OPEN % ("#curation", "#curation"))
+    asked = sorted(it.split("/page/")[1] for it in page.requests[before:])
+    checks.same("the view is four requests", ["docs/lanes/text", "progress", "snapshots", "snapshots/3/items"], asked)
+    checks.same("which tell the same", wanted, page.run(CHOICES % "#curation-number"))
     load(page, tried, "cur", "#/curation/7")
     checks.true("a snapshot that is not there", "(GET snapshots/7/items)" in trouble(page, "NoSnapshot"))
     load(page, tried, "cur", "#/text/none")
@@ -478,8 +520,24 @@ def annotator(checks: Checks, tried: Tried, page: Page) -> None:
     checks.true("an annotator sees the documents", go(page, tried, "ann", "", "#documents"))
     checks.same("and who she is", "ann, annotator", text_of(page, "#who"))
     checks.same("what she may see is said", "24 documents. You see your own layers, and no others.", text_of(page, "#documents-summary"))
-    checks.same("her column alone", ["Document", "Characters", "ann", "Layers missing"], page.run(ROWS % "#documents-table")[0])
+    rows = page.run(ROWS % "#documents-table")
+    checks.same("her column alone", ["Document", "Characters", "ann", "Layers missing"], rows[0])
+    asked = [it.split("/page/")[1] for it in page.requests if "/page/" in it]
+    heads = [it for it in page.requests if it.startswith("HEAD ")]
+    checks.same("a HEAD for each cell", (20, True), (len(heads), all(it.endswith("/layers/ann") for it in heads)))
+    checks.same("and nothing that is for curators", ["docs", "roster"], sorted(it for it in asked if "/layers/" not in it and it not in ("", "page.js", "style.css")))
+    # Of the first twenty texts she has no layer of lima and d01 to d12.
+    names = ["lima"] + [f"d{it:02}" for it in range(1, 13)] + ["rome", "empty", "hostile", "hebrew", "signs", "lanes", "many"]
+    checks.same("what she has not done first", names, [row[0] for row in rows[1:]])
+    cells = {row[0]: row[2:] for row in rows[1:]}
+    checks.same("whether a layer is there", [["○ none", "1 of 1"], ["● marks", "0 of 1"], ["◐ empty", "0 of 1"]], [cells[it] for it in ("lima", "rome", "empty")])
+    checks.same("the legend is that of her table", ["● marks", "◐ empty", "○ none"], page.run("[...document.querySelectorAll('#documents .legend:not([hidden]) .state')].map((it) => it.innerText)"))
     page.choose("#documents-order", "added")
+    page.click("#documents-count")
+    page.wait("document.querySelector('#documents-table thead').innerText.includes('differ')", 60)
+    cells = {row[0]: row[2:] for row in page.run(ROWS % "#documents-table")}
+    checks.same("how many annotations it has, classes aside", ["● 3", "0 of 1", "–"], cells["lanes"])
+    checks.picture(page, "own")
     page.click("a[href='#/text/rome']")
     page.wait(IS_OPEN % ("#text", "#text"))
     checks.same("her lane alone", [["ann: [Person]{Ann} met [Person]{Bob} in Rome"]], page.run(LANES))
@@ -511,13 +569,39 @@ def gone(checks: Checks, tried: Tried, page: Page) -> None:
     checks.true("the front is gone", "could not be reached" in trouble(page, "NoAnswer"))
 
 
+def alone(checks: Checks, page: Page) -> None:
+    """A project with a single annotator."""
+    served = Served(roster="ann,annotator\ncur,curator\n")
+    front: Optional[Haproxy] = None
+    try:
+        served.project("cur").add_text("rome", ROME)
+        with served.project("ann").desk("rome") as desk:
+            desk.add_span("Person", (0, 3))
+            desk.commit()
+        front = Haproxy(served.port, ("ann", "cur"))
+        page.go(front.url.replace("https://", "https://cur:cur-secret@") + "/page/")
+        page.wait(IS_OPEN % ("#documents", "#documents"))
+        checks.same("a single annotator's layer is shown", [["rome", "20", "◐ open 1", "0 of 1"]], page.run(ROWS % "#documents-table tbody"))
+        page.click("a[href='#/text/rome']")
+        page.wait(IS_OPEN % ("#text", "#text"))
+        checks.same("and her lane", [["ann: [Person]{Ann} met Bob in Rome"]], page.run(LANES))
+        page.click("nav a[href='#/agreement']")
+        page.wait(IS_OPEN % ("#agreement", "#agreement"))
+        checks.same("who agrees with nobody", [["ann", "–"]], page.run(ROWS % "#agreement-matrix tbody"))
+        checks.same("the browser does not complain", [], page.complaints)
+    finally:
+        if front is not None:
+            front.end()
+        served.end()
+
+
 def first_page(checks: Checks, page: Page) -> None:
     """What README.md says that a new user sees."""
     served = FirstPage()
     try:
         page.go(served.address.replace("https://", "https://cur:cur-secret@"))
         page.wait(IS_OPEN % ("#documents", "#documents"))
-        checks.same("the lines of README.md show its project", [["rome", "20", "○ none", "○ none", "○ none", "3 of 3"]], page.run(ROWS % "#documents-table tbody"))
+        checks.same("the lines of README.md show its project", [["rome", "20", "○ none", "○ none", "○ none", "0 of 3"]], page.run(ROWS % "#documents-table tbody"))
     finally:
         served.end()
 
@@ -560,6 +644,7 @@ def run(checks: Checks, tried: Tried, browser: Browser) -> None:
         checks.group(work, tried, page)
         checks.same(f"nor for the {work.__name__}", [], page.complaints)
     checks.group(gone, tried, browser.page())
+    checks.group(alone, browser.page())
     checks.group(first_page, browser.page())
 
 
