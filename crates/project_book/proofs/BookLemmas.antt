@@ -2,7 +2,6 @@
 use Rattle.std.proofs.Common.{◌≡◌, ◌⊎◌, ℕ, ◌+◌, ◌-◌, ◌<◌, ◌≤◌, ◌^◌, List, [], ◌∷◌, ◌++◌, length, map, slice_get, Option, Some, None, IfSome, option_map, refl, sym, ◌∙◌, ap, subst, arith, inl, inr}
 use Rattle.std.specs.Prelude.{Result, Err, IsErrOf}
 use Rattle.std.specs.Option.{option_map_or}
-use Rattle.std.proofs.lemmas.List.{length-map, map-append}
 use Rattle.mark_base.specs.Streams.{TellsFault}
 use Rattle.project_journal.specs.declared.keeper.KeeperFault.{KeeperFault}
 use Rattle.project_journal.specs.declared.keeper.KeeperFault.TheVariants as keeper
@@ -22,9 +21,7 @@ use Rattle.project_machine.proofs.HistoryLemmas.{after_more, last_low, legal_som
 use Rattle.project_machine.proofs.OpenLemmas.{encoded_more}
 use Rattle.project_state.specs.declared.act.Act.{Act}
 use Rattle.project_state.specs.declared.act.Act.TheVariants as act
-use Rattle.project_state.specs.declared.change.Change.{Change}
 use Rattle.project_state.specs.Acting.{performed}
-use Rattle.project_state.specs.Values.{happened_of}
 use Rattle.project_steps.specs.declared.steps.judging.Kept.{Kept}
 use Rattle.project_steps.specs.Steps.Judging.{kept_happens}
 use Rattle.project_state.specs.declared.tables.tabling.TableAct.{TableAct}

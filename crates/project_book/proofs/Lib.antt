@@ -11,6 +11,6 @@ mod EntryLemmas
 mod ReplayLemmas
 mod BegunLemmas
 mod OpeningLemmas
+mod FaultLemmas
 mod PieceLemmas
 pub mod StatePiecesProofs
-pub mod RestoringProofs

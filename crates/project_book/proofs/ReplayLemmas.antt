@@ -17,7 +17,7 @@ use Rattle.project_machine.specs.Machine.{step}
 use Rattle.project_machine.specs.AskedFor.{asked_for, next_by}
 use Rattle.project_machine.specs.Asking.{entry_behind}
 use Rattle.project_machine.specs.History.{after, after_places, effect, encoded, encoded_from, numbered_from, place_behind, unfounded}
-use Rattle.project_machine.specs.Legal.{IsFounding, IsKept, IsLegal, legal_founding, legal_restored, legal_step, legal_freeing}
+use Rattle.project_machine.specs.Legal.{IsFounding, IsKept, IsLegal, legal_founding, legal_freeing}
 use Rattle.project_machine.specs.Opening.{GoesOn, IsBadEntry, IsBegun, IsReplay, freeing_bytes, is_lacking, is_not_accepted}
 use Rattle.project_machine.proofs.HistoryLemmas.{front_legal, legal_some, step_next}
 use Rattle.project_machine.proofs.OpenLemmas.{encoded_more}
@@ -25,6 +25,7 @@ use Rattle.project_state.specs.declared.entries.asking.Asking.{Asking}
 use Rattle.project_state.specs.Entries.Asking.{CanBeNext, TellsRequest, plain_asking}
 use Rattle.project_state.specs.declared.entries.founding.Founding.{Founding}
 use Rattle.project_state.specs.Entries.Founding.{IsFoundingOf, founded as told_founding}
+use Rattle.project_book.proofs.StatePiecesProofs.BeginLemmas.{Begins, begins, with_founding, with_state}
 use Rattle.project_book.proofs.StatePiecesProofs.ConfLemmas.{ReadBack}
 use Rattle.project_state.specs.declared.act.Act.{Act}
 use Rattle.project_state.specs.declared.act.Act.TheVariants as act
@@ -274,21 +275,6 @@ bad_next entries place log bytes within is replay none =
 
 -- ---- the first entry
 
--- a history begins with a founding, or with a state
-data Begins (log : List Happened) : Type 0 where
-  with_founding : (conf : Configuration) (level : ℕ) (people : List Person) (rest : List Happened) → IsFounding conf level people → log ≡ Founded conf level people ∷ rest → Begins log
-  with_state : (state : ProjectState) (rest : List Happened) → log ≡ Restored state.place state ∷ rest → Begins log
-
-begins_more : (log : List Happened) (e : Happened) → Begins log → Begins (log ++ e ∷ [])
-begins_more log e (with_founding conf level people rest is same) = with_founding conf level people (rest ++ e ∷ []) is (ap (λ l. l ++ e ∷ []) same)
-begins_more log e (with_state state rest same) = with_state state (rest ++ e ∷ []) (ap (λ l. l ++ e ∷ []) same)
-
-begins : (log : List Happened) → IsLegal log → Begins log
-begins _ (legal_founding conf level people is) = with_founding conf level people [] is refl
-begins _ (legal_restored state sound) = with_state state [] refl
-begins _ (legal_step log caller asked e l typed is) = begins_more log e (begins log l)
-begins _ (legal_freeing log l is) = begins_more log AllFreed (begins log l)
-
 founding_one : (s : ProjectState) (conf : Configuration) (level : ℕ) (people : List Person) (rest : List Happened) (n : ℕ) → encoded_from s (numbered_from n (Founded conf level people ∷ rest)) ≡ entry_bytes (founding_entry (conf_text conf) people level) ∷ encoded_from (effect (n + 1) (Founded conf level people) s) (numbered_from (n + 1) rest)
 founding_one s conf level people rest n = refl
 
@@ -308,7 +294,7 @@ first_state bytes more log state rest same is = state_tag bytes state (head_same
 no_beginning_by : (bytes : List ℕ) (more : List (List ℕ)) (log : List Happened) → ReadBack → slice_get bytes 0 ≢ Some 16 → ((conf : Configuration) (level : ℕ) (people : List Person) → IsFounding conf level people → bytes ≢ entry_bytes (founding_entry (conf_text conf) people level))
     → bytes ∷ more ≡ encoded log → Begins log → ⊥
 no_beginning_by bytes more log back isnt none same (with_founding conf level people rest is whole) = none conf level people is (first_founded bytes more log conf level people rest same whole)
-no_beginning_by bytes more log back isnt none same (with_state state rest whole) = isnt (first_state bytes more log state rest same whole)
+no_beginning_by bytes more log back isnt none same (with_state state rest sound whole) = isnt (first_state bytes more log state rest same whole)
 
 pub none_begins : ReadBack → (bytes : List ℕ) → slice_get bytes 0 ≢ Some 16 → ((e : Entry) → IsEntry e → entry_bytes e ≡ bytes → ⊥) → IsNoBeginning bytes
 none_begins back bytes isnt none = λ log more legal same.
@@ -332,7 +318,7 @@ founded_first back apart bytes d conf level people isnt is same told other more 
     let one : Founded conf level people ≡ Founded c l ps =
     some_same (Founded conf level people) (Founded c l ps) (told c l ps (same_founding back apart bytes d c l ps is same founding (first_founded bytes more other c l ps rest e whole))) in
     (rest, whole ∙ ap (λ (x : Happened). x ∷ rest) (sym one))
-founded_first back apart bytes d conf level people isnt is same told other more e (with_state state rest whole) = absurd (isnt (first_state bytes more other state rest e whole))
+founded_first back apart bytes d conf level people isnt is same told other more e (with_state state rest sound whole) = absurd (isnt (first_state bytes more other state rest e whole))
 
 -- the founding that is told of the first entry begins each history that begins with it
 pub replay_founded : ReadBack → ToldApart → (bytes : List ℕ) (d : Entry) (conf : Configuration) (level : ℕ) (people : List Person) → slice_get bytes 0 ≢ Some 16 → IsEntry d → entry_bytes d ≡ bytes → IsFoundingOf d conf level people

@@ -1,9 +1,5 @@
 pub mod RunLemmas
 pub mod RowLemmas
-pub mod RunParts
-pub mod PieceFields
 pub mod BeginLemmas
 pub mod ConfLemmas
-pub mod PieceEntries
-pub mod ValueLemmas
 pub mod ApartLemmas

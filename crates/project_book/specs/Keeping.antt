@@ -1,5 +1,5 @@
 -- What a book keeps between two calls, and what a call of it does to its tables and its keeper.
-use Rattle.std.specs.Prelude.{◌≡◌, ℕ, ◌+◌, ◌≤◌, List, [], ◌∷◌, ◌++◌, length, map, slice_get, Option}
+use Rattle.std.specs.Prelude.{◌≡◌, ℕ, ◌+◌, ◌≤◌, List, [], ◌∷◌, ◌++◌, length, slice_get, Option}
 use Rattle.std.specs.Option.{option_map_or}
 use Rattle.mark_base.specs.Streams.{TellsFault}
 use Rattle.label_tracks.specs.Levels.{Grouping, grouping_of}

@@ -1,4 +1,3 @@
-pub mod Restoring
 pub mod Keeping
 pub mod Codes
 pub mod Founding

@@ -8,7 +8,7 @@ use Rattle.project_machine.specs.AskedFor.{asked_for}
 use Rattle.project_machine.specs.Machine.{step}
 use Rattle.project_machine.specs.History.{after, encoded}
 use Rattle.project_machine.specs.Legal.{IsFounding, IsLegal}
-use Rattle.project_machine.specs.Opening.{IsBadEntry, IsReplay, freeing_bytes}
+use Rattle.project_machine.specs.Opening.{IsReplay, freeing_bytes}
 use Rattle.project_machine.specs.ProjectState.{is_some_out}
 use Rattle.project_machine.specs.Requests.{Asked, Happened, AllFreed}
 use Rattle.project_state.specs.declared.entries.asking.Asking.{Asking}
@@ -20,6 +20,7 @@ use Rattle.project_book.specs.declared.open_fault.OpenFault.{OpenFault}
 use Rattle.project_book.specs.declared.open_fault.OpenFault.TheVariants as fault
 use Rattle.project_book.specs.Founding.{founded}
 use Rattle.project_book.specs.Keeping.{BookValue, Follows}
+use Rattle.project_book.specs.Opening.{IsEntryAtFault}
 
 -- ---- one entry
 
@@ -88,6 +89,6 @@ BeginsSo bytes (Some book) = IsReplay (bytes ∷ []) book.log
 
 -- why entries are not told again: the entry of a number is at fault, or memory ran out
 abbrev pub IsReplayRefusal : List (List ℕ) → OpenFault → Type 0
-IsReplayRefusal entries (fault.BadEntry number) = IsBadEntry entries number
+IsReplayRefusal entries (fault.BadEntry number) = IsEntryAtFault entries number
 IsReplayRefusal entries fault.Keeper = ⊥
 IsReplayRefusal entries fault.Memory = ⊤

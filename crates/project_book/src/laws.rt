@@ -6,11 +6,14 @@ ghost use Rattle.project_machine.specs.Entries.{pieces_of};
 ghost use Rattle.project_machine.specs.History.{after, encoded};
 ghost use Rattle.project_machine.specs.Legal.{AreAccepted, IsLegal, IsSound, IsViewAccepted};
 ghost use Rattle.project_machine.specs.Machine.{step};
-ghost use Rattle.project_machine.specs.Opening.{IsBadEntry};
 ghost use Rattle.project_machine.specs.ProjectState.{ProjectState, is_some_out};
 ghost use Rattle.project_machine.specs.Requests.{Happened, Taken, TakeSnapshot, View};
+ghost use Rattle.project_book.specs.Opening.{IsEntryAtFault};
 
 use crate::state_pieces::states_are_told_apart;
+use checkpoint::{
+    checkpoints_have_no_fault, pieces_are_read_in_one_way, sound_states_have_checkpoints,
+};
 use curator_decisions::{decisions_stay_accepted, undecided_layers_are_accepted};
 use layer_rules::unflawed_layers;
 use project_state::states_can_be_restored;
@@ -40,10 +43,21 @@ pub fn views_are_accepted()
 /// or the keeper failed, or opens them. So it is with the pieces of each state that can be restored, and of the state
 /// behind each history where no layer is out, at a place of at most 2^62.
 pub fn what_was_kept_is_without_fault()
-    ensures entries { (log : List Happened) (n : ℕ) → IsLegal log → IsBadEntry (encoded log) n → ⊥ }
-    ensures pieces { (s : ProjectState) (n : ℕ) → IsSound s → IsBadEntry (map entry_bytes (pieces_of s)) n → ⊥ }
-    ensures left { (log : List Happened) (n : ℕ) → IsLegal log → is_some_out (after log) ≡ false → (after log).place ≤ 2 ^ 62 → IsBadEntry (map entry_bytes (pieces_of (after log))) n → ⊥ }
+    ensures entries { (log : List Happened) (n : ℕ) → IsLegal log → IsEntryAtFault (encoded log) n → ⊥ }
+    ensures pieces { (s : ProjectState) (n : ℕ) → IsSound s → IsEntryAtFault (map entry_bytes (pieces_of s)) n → ⊥ }
+    ensures left { (log : List Happened) (n : ℕ) → IsLegal log → is_some_out (after log) ≡ false → (after log).place ≤ 2 ^ 62 → IsEntryAtFault (map entry_bytes (pieces_of (after log))) n → ⊥ }
 {
     verdicts_are_accepted();
     states_are_told_apart();
+    checkpoints_have_no_fault();
+    sound_states_have_checkpoints();
+}
+
+/// One entry at most is the first at fault.
+pub fn one_entry_is_at_fault()
+    ensures { (entries : List (List ℕ)) (m n : ℕ) → IsEntryAtFault entries m → IsEntryAtFault entries n → m ≡ n }
+{
+    checkpoints_have_no_fault();
+    sound_states_have_checkpoints();
+    pieces_are_read_in_one_way();
 }

@@ -35,16 +35,17 @@ mod open_fault;
 mod opening;
 mod pieces;
 mod replaying;
-mod restoring;
 mod state_pieces;
 mod visitor;
 
 pub use crate::alone::Alone;
 pub use crate::book::Book;
 pub use crate::found_fault::FoundFault;
-pub use crate::laws::{verdicts_are_accepted, views_are_accepted, what_was_kept_is_without_fault};
+pub use crate::laws::{
+    one_entry_is_at_fault, verdicts_are_accepted, views_are_accepted,
+    what_was_kept_is_without_fault,
+};
 pub use crate::open_fault::OpenFault;
-pub use crate::restoring::{is_sound, restore, run_length};
 pub use crate::state_pieces::states_are_told_apart;
 pub use crate::visitor::Visitor;
 pub use project_state::{

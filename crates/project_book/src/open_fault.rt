@@ -7,14 +7,13 @@ use mark_base::Memory;
 /// Why a project is not opened again from the entries of its journal.
 #[derive(Clone, Copy, Debug, PartialEq, Eq)]
 pub enum OpenFault {
-    /// The entry of this number, from 1, is at fault: it is no entry, or the project at that place does not make it, or no
-    /// state has it there among its pieces; or the number is that past the last entry, where there are no entries or a run
-    /// of pieces lacks its end.
+    /// The entry of this number, from 1, is the first at fault: it is no entry, or the project at that place does not make
+    /// it, or it is not read behind the pieces before it; or the number is that past the last entry, where there are no
+    /// entries or the last piece of a checkpoint is lacking.
     BadEntry(u64),
     /// The keeper failed, and counted it.
     Keeper,
-    /// Memory ran out; or the entries begin with a run of pieces of which no state that can be restored is read, and no
-    /// piece was found at fault.
+    /// Memory ran out.
     Memory,
 }
 

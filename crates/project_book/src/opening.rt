@@ -76,11 +76,10 @@ impl<K: Keeper> Book<K> {
     /// out, all are freed, by one change more. A refusal gives the keeper back with the entries that it had. Behind
     /// `Keeper`, and there alone, a stop may still leave the freeing, so the journal is to be opened anew from its
     /// file. Cost, read off the code and not measured: the bytes of the entries and what each of the requests costs
-    /// that made them; of a run of pieces what `restore` says, and the labels of all rows.
+    /// that made them; of a checkpoint what `restore` of `checkpoint` says, and the labels of all rows.
     ///
-    /// Entries that begin with a run of pieces are opened as the state whose pieces they are. Where no state that can be
-    /// restored is read of them, the first piece at fault is named, or the number past the last entry where the run lacks
-    /// its end. That it is found is tested, and no clause says so: where it is not, `Memory` is answered.
+    /// Entries that begin with a checkpoint are opened as the state whose pieces they are. Where one of them is not read
+    /// behind those before it, it is named, or the number past the last entry where the last piece is lacking.
     pub fn open(alloc: Global, keeper: K, entries: &[Bytes]) -> Result<Book<K>, (K, OpenFault)>
         requires kept { IfSome (K.kept keeper) (λ told. told ≡ entries.now) }
         requires certain { K.doubt keeper ≡ None }

@@ -3,9 +3,10 @@ ghost use Rattle.std.specs.Prelude.{◌≡◌, ◌≢◌, ◌<◌, ◌≤◌, �
 ghost use Rattle.std.specs.Arc.{arc_value};
 ghost use Rattle.project_machine.specs.Legal.{IsFounding, IsSound};
 ghost use Rattle.project_machine.specs.Opening.{IsReplay, freeing_bytes, restored};
-ghost use Rattle.project_book.specs.Restoring.Following.{StartsRun};
 ghost use Rattle.project_state.specs.Entries.Asking.{plain_asking};
+ghost use Rattle.checkpoint.specs.Runs.{IsCheckpoint};
 ghost use Rattle.project_book.specs.Founding.{founded};
+ghost use Rattle.project_book.specs.Opening.{BeginsWithPiece};
 ghost use Rattle.project_book.specs.Replaying.{BeginsSo, IsAskedBy, IsAskingOf, IsFoundingBy, IsFreeing, IsMadeBy, IsNextKept, IsReading, IsReplayRefusal, IsTakenUp};
 
 use crate::book::Book;
@@ -13,9 +14,10 @@ use crate::founding::{Beginning, complete, founding_change, share};
 use crate::history::History;
 use crate::kept_already::KeptAlready;
 use crate::open_fault::OpenFault;
-use crate::restoring::{first_fault, restore, run_length};
+use crate::state_pieces::states_are_told_apart;
 use ann_writer::written_layers_are_utf8;
 use annotation_conf::sound_configurations_are_read_back;
+use checkpoint::{RestoreFault, Restored, checkpoints_are_pieces, checkpoints_are_sound, restore};
 use entry_bytes::{Entry, entries_are_told_apart, read_entry, write_entry};
 use label_tracks::Groups;
 use mark_base::{Bytes, Memory, Steps};
@@ -33,7 +35,7 @@ use std::sync::ledger::{Blank, Ledger};
 /// The only byte of the entry of a freeing.
 const FREEING_TAG: u8 = 12;
 
-/// The first byte of the first entry where a journal begins with a whole state.
+/// The first byte of the first entry where a journal begins with a checkpoint.
 const STATE_TAG: u8 = 16;
 
 /// Whether bytes are the same.
@@ -52,7 +54,7 @@ fn is_freeing(bytes: &[u8]) -> bool
     are_same(bytes, &[FREEING_TAG])
 }
 
-/// Whether bytes are those of the first entry of a whole state.
+/// Whether bytes are those of the first piece of a checkpoint.
 fn begins_state(bytes: &[u8]) -> bool
     ensures state { result ≡ true → slice_get bytes.now 0 ≡ Some 16 }
     ensures other { result ≡ false → slice_get bytes.now 0 ≢ Some 16 }
@@ -327,68 +329,38 @@ fn restored_again<G: Ledger>(
     })
 }
 
-/// The project that begins with the state whose pieces all these entries are.
-#[tactic(auto, using(crate::proofs::RestoredLemmas::replay_restored))]
-fn begun_of_run<G: Ledger>(
-    alloc: Global,
-    run: &[Bytes],
-    steps: &mut Steps<G>,
-) -> Result<Option<Book<KeptAlready>>, Memory>
-    ensures { IfOk result (λ found. IfSome found (λ book. IsReplay run.now book.log)) }
+/// The project that the checkpoint tells with which some entries begin, and how many these are; or why it is not read.
+fn read_checkpoint(alloc: Global, entries: &[Bytes]) -> Result<Restored, OpenFault>
+    requires { BeginsWithPiece entries.now }
+    ensures within { IfOk result (λ restored. restored.count ≤ length entries.now) }
+    ensures told { IfOk result (λ restored. IsCheckpoint (take restored.count entries.now) restored.state.state) }
+    ensures refused { IfErr result (IsReplayRefusal entries.now) }
 {
-    match restore(alloc, run)? {
-        Some(state) => Ok(Some(restored_again(alloc, state, steps)?)),
-        None => Ok(None),
+    match restore(alloc, entries) {
+        Ok(restored) => Ok(restored),
+        Err(RestoreFault::BadEntry(number)) => Err(OpenFault::BadEntry(number)),
+        Err(RestoreFault::Memory) => Err(OpenFault::Memory),
     }
 }
 
-/// The project behind the run of pieces with which some entries begin, and how many these are, where a state is read of
-/// them.
-fn begun_of_entries<G: Ledger>(
-    alloc: Global,
-    entries: &[Bytes],
-    steps: &mut Steps<G>,
-) -> Result<Option<Started>, Memory>
-    ensures within { IfOk result (λ found. IfSome found (λ started. started.count ≤ length entries.now)) }
-    ensures told { IfOk result (λ found. IfSome found (λ started. IsReplay (take started.count entries.now) started.book.log)) }
-{
-    let Some(count) = run_length(entries) else {
-        return Ok(None);
-    };
-    match begun_of_run(alloc, &entries[..count], steps)? {
-        Some(book) => Ok(Some(Started { book, count })),
-        None => Ok(None),
-    }
-}
-
-/// Why no project is read of the run of pieces with which some entries begin. Where the first piece at fault is not
-/// found, memory is said to run out: that this never comes is not proved.
-fn run_refusal(alloc: Global, entries: &[Bytes]) -> Result<OpenFault, Memory>
-    requires { StartsRun entries.now }
-    ensures { IfOk result (IsReplayRefusal entries.now) }
-{
-    match first_fault(alloc, entries)? {
-        Some(number) => Ok(OpenFault::BadEntry(number as u64)),
-        None => Ok(OpenFault::Memory),
-    }
-}
-
-/// The project behind the run of pieces with which some entries begin, or why there is none.
+/// The project behind the checkpoint with which some entries begin, or why there is none.
+#[tactic(auto, using(crate::proofs::RestoredLemmas::replay_checkpoint))]
 fn begun_restored<G: Ledger>(
     alloc: Global,
     entries: &[Bytes],
     steps: &mut Steps<G>,
 ) -> Result<Started, OpenFault>
-    requires { StartsRun entries.now }
+    requires { BeginsWithPiece entries.now }
     ensures within { IfOk result (λ started. started.count ≤ length entries.now) }
     ensures told { IfOk result (λ started. IsReplay (take started.count entries.now) started.book.log) }
     ensures refused { IfErr result (IsReplayRefusal entries.now) }
 {
-    if let Some(started) = begun_of_entries(alloc, entries, steps)? {
-        return Ok(started);
-    }
-    let why = run_refusal(alloc, entries)?;
-    Err(why)
+    checkpoints_are_pieces();
+    checkpoints_are_sound();
+    states_are_told_apart();
+    let Restored { state, count } = read_checkpoint(alloc, entries)?;
+    let book = restored_again(alloc, state, steps)?;
+    Ok(Started { book, count })
 }
 
 /// The project behind its first change, or why there is none.

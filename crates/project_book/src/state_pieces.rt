@@ -18,6 +18,4 @@ mod snapshots;
 mod whole;
 
 pub use crate::state_pieces::laws::states_are_told_apart;
-pub use crate::state_pieces::rows::annotator_names;
-pub(crate) use crate::state_pieces::run::Run;
 pub use crate::state_pieces::whole::pieces;

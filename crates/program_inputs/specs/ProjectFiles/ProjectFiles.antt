@@ -8,8 +8,9 @@ use Rattle.project_journal.specs.JournalFile.{opened}
 use Rattle.project_journal.specs.Opening.{Refuses}
 use Rattle.project_machine.specs.Requests.{Happened}
 use Rattle.project_machine.specs.History.{encoded}
-use Rattle.project_machine.specs.Opening.{IsBadEntry, IsOpened}
+use Rattle.project_machine.specs.Opening.{IsOpened}
 use Rattle.project_book.specs.Founding.{founding_bytes, is_too_long}
+use Rattle.project_book.specs.Opening.{IsEntryAtFault}
 use Rattle.program_inputs.specs.declared.trouble.Trouble.{Trouble}
 use Rattle.program_inputs.specs.declared.trouble.Trouble.TheVariants.{AlreadyThere, BadEntry, BookTooLong, Damaged, DiskFailed, DiskInUse, Memory, NewerVersion, NotAJournal}
 
@@ -27,11 +28,11 @@ pub record OpensAs (file : Option (List ℕ)) (log : List Happened) : Type 0 whe
   pub read : HasEntries file entries
   pub history : IsOpened entries log
 
--- the entry of a number is at fault in a file
+-- the entry of a number is the first at fault in a file
 pub record HasBadEntry (file : Option (List ℕ)) (number : ℕ) : Type 0 where
   pub entries : List (List ℕ)
   pub read : HasEntries file entries
-  pub fault : IsBadEntry entries number
+  pub fault : IsEntryAtFault entries number
 
 -- why the disk of a name is not handed out where one is made of a name that is not there: another process has it; or it failed, or memory ran out
 abbrev pub NotTaken : Trouble → Type 0

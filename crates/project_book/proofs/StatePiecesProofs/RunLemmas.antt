@@ -92,12 +92,6 @@ get_or-same [] k d within = absurd (omega arith)
 get_or-same (x ∷ xs) zero d within = refl
 get_or-same (x ∷ xs) (suc k) d within = get_or-same xs k d (omega arith)
 
--- an element of a list, whatever stands where there is none
-pub any_default : {X : Type 0} (xs : List X) (k : ℕ) (d e : X) → k < length xs → get_or xs k d ≡ get_or xs k e
-any_default [] k d e within = absurd (omega arith)
-any_default (x ∷ xs) zero d e within = refl
-any_default (x ∷ xs) (suc k) d e within = any_default xs k d e (omega arith)
-
 placed_at : {X : Type 0} (xs : List X) (k : ℕ) (d : X) → k < length xs → (k, get_or xs k d) ≡ get_or (enumerate_from 0 xs) k (k, get_or xs k d)
 placed_at xs k d within =
     let here : 0 + k ≡ k = omega arith in

@@ -187,9 +187,9 @@ pub(crate) fn document_there(state: &BookState, doc: usize) -> &StoredDocument
     }
 }
 
-/// The names of the annotators among some people, in their order. Cost: the people, and the bytes of the names.
+/// The names of the annotators among some people, in their order.
 #[tactic(auto, using(project_state::proofs::FrontLemmas::names_behind_annotator, project_state::proofs::FrontLemmas::names_behind_curator))]
-pub fn annotator_names(alloc: Global, people: &[Person]) -> Result<Vec<Slug>, Memory>
+fn annotator_names(alloc: Global, people: &[Person]) -> Result<Vec<Slug>, Memory>
     ensures { IfOk result (λ names. names.items ≡ map (λ person. person.name) (filter (λ person. not person.curator) people.now)) }
 {
     let mut names = Vec::new(alloc);

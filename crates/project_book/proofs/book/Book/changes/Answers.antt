@@ -1,4 +1,4 @@
-use Rattle.std.proofs.Common.{◌≡◌, length, ◌∙◌, ap}
+use Rattle.std.proofs.Common.{length, ◌∙◌, ap}
 use Rattle.project_book.specs.Keeping.{BookValue}
 use Rattle.project_book.proofs.book.Book.changes.Goals as goal
 

@@ -2,7 +2,6 @@ use Rattle.std.proofs.Common.{◌≡◌, ◌⊎◌, ℕ, List, [], ◌∷◌, �
 use Rattle.project_machine.specs.Requests.{Happened}
 use Rattle.project_machine.specs.Asking.{StaysOrGoes}
 use Rattle.project_machine.specs.History.{after}
-use Rattle.project_state.specs.declared.change.Change.{Change}
 use Rattle.project_state.specs.Acting.{performed}
 use Rattle.project_state.specs.Values.{happened_of}
 use Rattle.project_book.specs.Keeping.{BookValue, Follows, Stands}

@@ -1,9 +1,0 @@
-use Rattle.entry_bytes.specs.Entries.{entry_bytes, IsEntry}
-use Rattle.std.proofs.Common.{◌≡◌, ◌∙◌}
-use Rattle.project_book.proofs.RestoringProofs.DoubledLemmas.{named_so}
-use Rattle.project_book.proofs.restoring.doubled.name_by.Goals as goal
-
-pub returns : goal.returns
-returns c =
-    let read : IsEntry c.in-Some.entry × (entry_bytes c.in-Some.entry ≡ c.items.result.now) = rw c.in-Some.is at c.in_ok-entry.ensures.found in
-    named_so c.args.bytes.now c.in-Some.entry c.in_ok-name.name read.0 (read.1 ∙ c.items.ensures) c.in_ok-name.ensures

@@ -1,9 +1,0 @@
-use Rattle.std.proofs.Common.{length}
-use Rattle.project_book.proofs.RestoringProofs.VerdictLemmas.{AreReadSo}
-use Rattle.project_book.proofs.restoring.said_verdicts.pairs_of.Given as goal
-
-abbrev pub invariant-loop-rest : goal.invariant-loop-rest
-invariant-loop-rest l = AreReadSo l.bytes l.pairs.items l.rest
-
-abbrev pub decreases-loop-rest : goal.decreases-loop-rest
-decreases-loop-rest l = length l.rest

@@ -1,9 +1,0 @@
-pub mod Begun
-pub mod Following
-pub mod Walking
-pub mod HeldOrder
-pub mod Sizes
-pub mod Judged
-pub mod Kept
-pub mod Parked
-pub mod Restoring
