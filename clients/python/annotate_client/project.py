@@ -152,7 +152,7 @@ class Project:
         return read_roster(self._ask("GET", "/roster").text(CSV))
 
     def progress(self) -> List[Progress]:
-        """How far each annotator is with each document, also where nothing was begun, as a curator.
+        """How far each annotator is with each document, also where nothing was begun; an annotator is told the own rows.
 
         The documents come as they were added, and for each the annotators by name.
 

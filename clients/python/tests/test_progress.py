@@ -46,6 +46,8 @@ class WhoIsDone(ServedCase):
                 Progress("oslo", "cid", 0, "none", False, 0, 0),
             ],
         )
+        # An annotator is told the own rows.
+        self.assertEqual(self.ann.progress(), [Progress("rome", "ann", 1, "finished", False, 2, 0), Progress("oslo", "ann", 0, "out", False, 0, 0)])
         for desk in out:
             desk.park()
         self.cur.reopen("rome", "ann")

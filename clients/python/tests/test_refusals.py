@@ -87,8 +87,9 @@ class Refusals(ServedCase):
         self.refuses(NotAllowed, 401, "NotAllowed", "Roster", eve.docs)
         self.refuses(NotAllowed, 403, "NotAllowed", "Curator", self.ann.pairs)
         for project, status, of in ((self.ann, 403, "Curator"), (eve, 401, "Roster")):
-            for ask in (project.roster, project.progress, project.snapshots):
+            for ask in (project.roster, project.snapshots):
                 self.refuses(NotAllowed, status, "NotAllowed", of, ask)
+        self.refuses(NotAllowed, 401, "NotAllowed", "Roster", eve.progress)
         self.refuses(NotAllowed, 403, "NotAllowed", "Own", lambda: self.ann.layer("rome", "bob"))
         self.refuses(NotAllowed, 403, "NotAllowed", "Annotator", lambda: self.cur.desk("rome"))
         self.refuses(BadRequest, 401, "NoCaller", None, self.served.project(".eve").docs)
